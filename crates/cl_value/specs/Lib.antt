@@ -1,0 +1,10 @@
+pub mod Room
+pub mod Fields
+pub mod Matching
+pub mod Plain
+pub mod LiveViews
+pub mod Views
+pub mod Acts
+pub mod Replay
+pub mod Tickets
+pub mod Text
