@@ -1,0 +1,11 @@
+pub mod Bag
+pub mod Demand
+pub mod Machine
+pub mod Ends
+pub mod Good
+pub mod Tokens
+pub mod Small
+pub mod SmallViews
+pub mod SmallMeaning
+pub mod Commands
+pub mod Refusals
