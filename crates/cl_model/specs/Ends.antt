@@ -1,8 +1,8 @@
 -- When the processes of a state are at an end, and when they wait for good. (This project.)
-use Rattle.std.specs.Prelude.{ℕ, ◌≡◌, ◌==◌, Bool, true, false, ◌||◌, ◌&&◌, List, Option, Some}
+use Rattle.std.specs.Prelude.{ℕ, ◌≡◌, ◌==◌, Bool, true, false, ◌||◌, ◌&&◌, List, Some}
 use Rattle.cl_value.specs.Plain.{PlainAsk, In, Rd, PlainAct}
 use Rattle.cl_model.specs.Bag.{Bag, NoneMatches}
-use Rattle.cl_model.specs.Demand.{Demands, Demand, Outcome, Wants, Finishes}
+use Rattle.cl_model.specs.Demand.{Demands, Outcome, Wants, Finishes}
 use Rattle.cl_model.specs.Machine.{State, Process, after, demand_of}
 
 -- whether a process has finished

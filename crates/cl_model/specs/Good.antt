@@ -1,11 +1,11 @@
 -- What a report says of its run. (This project.)
-use Rattle.std.specs.Prelude.{ℕ, ◌+◌, ◌≡◌, ◌≢◌, ◌==◌, ◌<◌, Bool, true, false, ◌||◌, ◌⊎◌, List, [], ◌∷◌, map, Option, Some, Contains}
+use Rattle.std.specs.Prelude.{ℕ, ◌+◌, ◌≡◌, ◌≢◌, Bool, true, false, ◌||◌, ◌⊎◌, List, [], ◌∷◌, map, Some, Contains}
 use Rattle.std.specs.List.{AllByRecursion}
-use Rattle.cl_value.specs.Plain.{PlainAct, PlainEnd, Ended, Trapped, NoThread, HistoryFull, NoMemory, Stopped, Waiting, PlainStart, Main, PlainReport, PlainHistory, PlainRun}
+use Rattle.cl_value.specs.Plain.{PlainAct, PlainEnd, Ended, Trapped, NoThread, HistoryFull, NoMemory, Stopped, Waiting, PlainReport, PlainHistory, PlainRun}
 use Rattle.cl_value.specs.Acts.{acts_of, names_made}
 use Rattle.cl_value.specs.Replay.{Oldest}
 use Rattle.cl_value.specs.Tickets.{by_ticket}
-use Rattle.cl_model.specs.Demand.{Demands, Demand, Outcome, Finishes, Traps}
+use Rattle.cl_model.specs.Demand.{Demands, Outcome, Finishes, Traps}
 use Rattle.cl_model.specs.Machine.{Legal, Process, after, demand_of}
 use Rattle.cl_model.specs.Ends.{Stuck, is_over}
 

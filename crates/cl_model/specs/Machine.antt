@@ -3,10 +3,9 @@
 -- and depth: this project.)
 use Rattle.std.specs.Prelude.{ℕ, ◌+◌, ◌≡◌, ◌≢◌, ◌==◌, Bool, true, false, ◌||◌, ◌&&◌, if◌then◌else◌, List, [], ◌∷◌, ◌++◌, Option, Some, None, option_map, option_to_list}
 use Rattle.cl_value.specs.Matching.{matches}
-use Rattle.cl_value.specs.Plain.{PlainPart, PlainWhat, DidOut, DidIn, DidRd, InpHit, InpMiss, RdpHit, RdpMiss, DidEval, DidLand, PlainAct, PlainStart, Main, Lives, PlainReply}
+use Rattle.cl_value.specs.Plain.{PlainWhat, DidOut, DidIn, DidRd, InpHit, InpMiss, RdpHit, RdpMiss, DidEval, DidLand, PlainAct, PlainStart, Main, Lives, PlainReply}
 use Rattle.cl_value.specs.Acts.{request_of, reply_of, is_eval}
 use Rattle.cl_value.specs.Tickets.{NumberedFrom}
-use Rattle.cl_value.specs.declared.value.Value.{Value}
 use Rattle.cl_model.specs.Bag.{Bag, empty, plus, minus, Holds, NoneMatches}
 use Rattle.cl_model.specs.Demand.{Demands, Demand, Outcome, Wants, Finishes}
 

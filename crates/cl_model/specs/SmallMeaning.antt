@@ -3,7 +3,7 @@
 use Rattle.std.specs.Prelude.{ℕ, suc, ◌+◌, ◌==◌, if◌then◌else◌, List, [], ◌∷◌, ◌++◌, map, ℤ, pos}
 use Rattle.std.specs.List.{range_with_len}
 use Rattle.cl_value.specs.Matching.{matches}
-use Rattle.cl_value.specs.Plain.{PlainAsk, Out, In, PlainRequest, PlainStart, Main, Lives, PlainReply, Done, Got, Miss}
+use Rattle.cl_value.specs.Plain.{Out, In, Main, Lives, PlainReply, Done, Got, Miss}
 use Rattle.cl_value.specs.declared.value.Value.{Value}
 use Rattle.cl_value.specs.declared.value.Value.TheVariants as values
 use Rattle.cl_value.specs.declared.value.FieldType.TheVariants as types

@@ -1,6 +1,5 @@
 -- From a small unit to its plain form. (This project.)
 use Rattle.std.specs.Prelude.{List, map}
-use Rattle.cl_value.specs.Room.{Room}
 use Rattle.cl_model.specs.Small.{PlainPiece, Text, Literal, Formal, PlainItem, Declare, DoOut, DoIn}
 use Rattle.cl_model.specs.declared.small.Piece.{Piece}
 use Rattle.cl_model.specs.declared.small.Piece.TheVariants as pieces

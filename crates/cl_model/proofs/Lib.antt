@@ -1,0 +1,4 @@
+pub mod Matches
+pub mod Bags
+pub mod Histories
+pub mod Alone
