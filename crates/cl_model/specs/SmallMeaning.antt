@@ -1,6 +1,6 @@
 -- What the process of a small unit does, by recursion on its items. (Gelernter 1985 for the operations;
 -- variables that begin at 0, and the order from left to right: this project.)
-use Rattle.std.specs.Prelude.{ℕ, suc, ◌+◌, ◌==◌, if◌then◌else◌, List, [], ◌∷◌, ◌++◌, map, ℤ, pos}
+use Rattle.std.specs.Prelude.{ℕ, zero, suc, ◌+◌, ◌==◌, if◌then◌else◌, List, [], ◌∷◌, ◌++◌, map, ℤ, pos}
 use Rattle.std.specs.List.{range_with_len}
 use Rattle.cl_value.specs.Matching.{matches}
 use Rattle.cl_value.specs.Plain.{Out, In, Main, Lives, PlainReply, Done, Got, Miss}
@@ -97,6 +97,11 @@ abbrev pub small_demands : List PlainItem → Demands
 small_demands items Main replies = demand_from (texts_of items) zeros 0 items replies
 small_demands items (Lives site live depth) replies = silent Misfit
 
--- one set with all sites, or none where there is no operation
+-- one set with so many sites, or none where there is none
+abbrev pub one_set : ℕ → List (List ℕ)
+one_set zero = []
+one_set (suc n) = range_with_len 0 (suc n) ∷ []
+
+-- the sites of each set: all operations are one set
 abbrev pub small_sets : List PlainItem → List (List ℕ)
-small_sets items = if operations_in items == 0 then [] else range_with_len 0 (operations_in items) ∷ []
+small_sets items = one_set (operations_in items)

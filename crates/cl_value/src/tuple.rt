@@ -77,6 +77,19 @@ impl Tuple {
         self.fields.push(value);
     }
 
+    /// Makes it a tuple of the same fields. It keeps its room and takes no memory.
+    pub fn refill(&mut self, from: &Tuple)
+        requires { HasRoom 16 self.old }
+        ensures fields { self.new.items ≡ from.now.items }
+        ensures room { capacity_of self.new ≡ capacity_of self.old }
+    {
+        let count = from.len();
+        self.restart(from.field(0));
+        for i in 1..count {
+            self.push(from.field(i));
+        }
+    }
+
     /// The number of fields, from 1 to 16.
     #[allow(clippy::len_without_is_empty)]
     pub fn len(&self) -> usize

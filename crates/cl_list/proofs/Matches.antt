@@ -1,0 +1,139 @@
+-- Facts about the first match of a list of tuples.
+use Rattle.std.proofs.Common.{◌≡◌, ℕ, suc, ◌+◌, ◌<◌, true, false, List, [], ◌∷◌, ◌++◌, length, map, get_or, take, drop, Option, Some, None, refl, sym, ◌∙◌, ap, arith, inl, inr, subst}
+use Rattle.std.proofs.lemmas.Bool.{cases_Bool}
+use Rattle.std.proofs.lemmas.List.{map-append, take-map, drop-map, length-map, length-take-le, take_more}
+use Rattle.std.proofs.lemmas.List.Elements.{All-append, All-take, All-drop}
+use Rattle.std.proofs.Math.Seq.{split_at}
+use Rattle.std.proofs.lemmas.Option.{slice_get_within, get_or_from_slice_get, slice_get-map}
+use Rattle.std.specs.Prelude.{option_map, slice_get, remove, All}
+use Rattle.cl_value.specs.Matching.{matches}
+use Rattle.cl_value.specs.Replay.{first_match, found, without_first}
+use Rattle.cl_value.specs.declared.value.Value.{Value}
+use Rattle.cl_value.specs.declared.template.Slot.{Slot}
+
+-- a list whose oldest tuple matches has its first match there
+pub first_match-yes : (t : List Value) (ts : List (List Value)) (m : List Slot) → matches m t ≡ true → first_match (t ∷ ts) m ≡ Some 0
+first_match-yes t ts m met = rw met
+
+-- a list whose oldest tuple does not match has the first match of the others, one place on
+pub first_match-no : (t : List Value) (ts : List (List Value)) (m : List Slot) → matches m t ≡ false → first_match (t ∷ ts) m ≡ option_map suc (first_match ts m)
+first_match-no t ts m unmet = rw unmet
+
+-- what is one place on is somewhere only if it was
+pub option_map-none : (place : Option ℕ) → option_map suc place ≡ None → place ≡ None
+option_map-none None h = refl
+option_map-none (Some i) h = cc
+
+-- what is one place on at a place was at the place before
+pub option_map-some : (place : Option ℕ) (i : ℕ) → option_map suc place ≡ Some i → (j : ℕ) × ((place ≡ Some j) × (i ≡ suc j))
+option_map-some None i h = cc
+option_map-some (Some j) i h = (j, (refl, (cc)))
+
+-- after tuples that do not match, the first match is that of the others, as many places on
+pub first_match-end : (ts us : List (List Value)) (t : List Value) (m : List Slot) → first_match ts m ≡ None → matches m t ≡ true → first_match (ts ++ t ∷ us) m ≡ Some (length ts)
+first_match-end [] us t m none met = first_match-yes t us m met
+first_match-end (s ∷ ts) us t m none met =
+    elim (cases_Bool (matches m s)) [
+      | inl y ↦ let e = first_match-yes s ts m y in cc
+      | inr n ↦
+          let e = first_match-no s ts m n in
+          let rest : first_match ts m ≡ None = option_map-none _ (sym e ∙ none) in
+          first_match-no s (ts ++ t ∷ us) m n ∙ ap (option_map suc) (first_match-end ts us t m rest met)
+    ]
+
+-- after tuples that do not match, and one more, there is no match
+pub first_match-push : (ts : List (List Value)) (t : List Value) (m : List Slot) → first_match ts m ≡ None → matches m t ≡ false → first_match (ts ++ t ∷ []) m ≡ None
+first_match-push [] t m none unmet = first_match-no t [] m unmet
+first_match-push (s ∷ ts) t m none unmet =
+    elim (cases_Bool (matches m s)) [
+      | inl y ↦ let e = first_match-yes s ts m y in cc
+      | inr n ↦
+          let e = first_match-no s ts m n in
+          let rest : first_match ts m ≡ None = option_map-none _ (sym e ∙ none) in
+          first_match-no s (ts ++ t ∷ []) m n ∙ ap (option_map suc) (first_match-push ts t m rest unmet)
+    ]
+
+-- the first match is a place of the list, whose tuple matches
+pub first_match-matches : (ts : List (List Value)) (m : List Slot) (i : ℕ) → first_match ts m ≡ Some i → (t : List Value) × ((slice_get ts i ≡ Some t) × (matches m t ≡ true))
+first_match-matches [] m i h = cc
+first_match-matches (s ∷ ts) m i h =
+    elim (cases_Bool (matches m s)) [
+      | inl y ↦
+          let e = first_match-yes s ts m y in
+          let zero_is : 0 ≡ i = cc in
+          let P : ℕ → Type 0 = λ k. slice_get (s ∷ ts) k ≡ Some s in
+          (s, (subst P zero_is refl, y))
+      | inr n ↦
+          let e = first_match-no s ts m n in
+          let (j, (at, is)) = option_map-some _ i (sym e ∙ h) in
+          let (t, (got, met)) = first_match-matches ts m j at in
+          let P : ℕ → Type 0 = λ k. slice_get (s ∷ ts) k ≡ Some t in
+          (t, (subst P (sym is) got, met))
+    ]
+
+-- the first match lies within the list
+pub first_match-within : (ts : List (List Value)) (m : List Slot) (i : ℕ) → first_match ts m ≡ Some i → i < length ts
+first_match-within ts m i h =
+    let (t, (got, met)) = first_match-matches ts m i h in slice_get_within ts i t got
+
+-- what is found stands at the place of the first match
+pub found-at : (ts : List (List Value)) (m : List Slot) (i : ℕ) → first_match ts m ≡ Some i → found ts m ≡ slice_get ts i
+found-at ts m i h = rw h
+
+-- what is found matches, and stands at the place of the first match
+pub found-matches : (ts : List (List Value)) (m : List Slot) (t : List Value) → found ts m ≡ Some t → (i : ℕ) × ((first_match ts m ≡ Some i) × ((slice_get ts i ≡ Some t) × (matches m t ≡ true)))
+found-matches ts m t h =
+    elim (first_match ts m) as (λ o. first_match ts m ≡ o → (i : ℕ) × ((first_match ts m ≡ Some i) × ((slice_get ts i ≡ Some t) × (matches m t ≡ true)))) [
+      | None ↦ λ none. let e : found ts m ≡ None = rw none refl in cc
+      | Some i ↦ λ is.
+          let e = found-at ts m i is in
+          let (u, (got, met)) = first_match-matches ts m i is in
+          let same : u ≡ t = cc in
+          let P : List Value → Type 0 = λ w. matches m w ≡ true in
+          (i, (is, (sym e ∙ h, subst P same met)))
+    ] refl
+
+-- without the first match the list lacks that place
+pub without_first-at : (ts : List (List Value)) (m : List Slot) (i : ℕ) → first_match ts m ≡ Some i → without_first ts m ≡ remove ts i
+without_first-at ts m i h = rw h
+
+-- a list has its first match where a tuple matches and those before it do not
+pub first_match-here : {A : Type 0} (v : A → List Value) (xs : List A) (i : ℕ) (x : A) (m : List Slot) → i < length xs → x ≡ get_or xs i x → first_match (map v (take i xs)) m ≡ None → matches m (v x) ≡ true → first_match (map v xs) m ≡ Some i
+first_match-here v xs i x m lt at none met =
+    let count : length (map v (take i xs)) ≡ i = length-map _ v ∙ length-take-le i xs (omega arith) in
+    let parts : xs ≡ take i xs ++ x ∷ drop (suc i) xs = split_at xs i x lt ∙ ap (λ y. take i xs ++ y ∷ drop (suc i) xs) (sym at) in
+    ap (λ ys. first_match (map v ys) m) parts ∙ (ap (λ ts. first_match ts m) (map-append v (take i xs) (x ∷ drop (suc i) xs)) ∙ (first_match-end _ _ _ m none met ∙ ap Some count))
+
+-- there is none up to a place where a tuple does not match, nor those before it
+pub first_match-further : {A : Type 0} (v : A → List Value) (xs : List A) (i : ℕ) (x : A) (m : List Slot) → i < length xs → x ≡ get_or xs i x → first_match (map v (take i xs)) m ≡ None → matches m (v x) ≡ false → first_match (map v (take (i + 1) xs)) m ≡ None
+first_match-further v xs i x m lt at none unmet =
+    let parts : take (i + 1) xs ≡ take i xs ++ x ∷ [] = take_more xs i x lt ∙ ap (λ y. take i xs ++ y ∷ []) (sym at) in
+    ap (λ ys. first_match (map v ys) m) parts ∙ (ap (λ ts. first_match ts m) (map-append v (take i xs) (x ∷ [])) ∙ first_match-push _ _ m none unmet)
+
+-- a list of views without a place is the views of the list without it
+pub map-remove : {A B : Type 0} (v : A → B) (xs : List A) (i : ℕ) → map v (remove xs i) ≡ remove (map v xs) i
+map-remove v xs i = rw (map-append, take-map, drop-map) refl
+
+-- one more item of the list, which stands at the place
+pub take-slice_get : {A : Type 0} (xs : List A) (i : ℕ) (x : A) → slice_get xs i ≡ Some x → take (i + 1) xs ≡ take i xs ++ x ∷ []
+take-slice_get xs i x h = take_more xs i x (slice_get_within xs i x h) ∙ ap (λ y. take i xs ++ y ∷ []) (get_or_from_slice_get xs i x x h)
+
+-- a place of the first match lies within the list whose views are searched
+pub view_within : {A : Type 0} (v : A → List Value) (xs : List A) (m : List Slot) (i : ℕ) → first_match (map v xs) m ≡ Some i → i < length xs
+view_within v xs m i h = rw (length-map xs v) at (first_match-within (map v xs) m i h)
+
+-- what is found is the view of what stands at the place of the first match
+pub view_found : {A : Type 0} (v : A → List Value) (xs : List A) (m : List Slot) (i : ℕ) (x : A) → first_match (map v xs) m ≡ Some i → slice_get xs i ≡ Some x → found (map v xs) m ≡ Some (v x)
+view_found v xs m i x h at = found-at (map v xs) m i h ∙ (slice_get-map v xs i ∙ ap (option_map v) at)
+
+-- without the first match are the views of the list without that place
+pub view_without : {A : Type 0} (v : A → List Value) (xs : List A) (m : List Slot) (i : ℕ) → first_match (map v xs) m ≡ Some i → map v (remove xs i) ≡ without_first (map v xs) m
+view_without v xs m i h = map-remove v xs i ∙ sym (without_first-at (map v xs) m i h)
+
+-- what holds of each item still holds of each where one is removed
+pub All-remove : {A : Type 0} (P : A → Type 0) (xs : List A) (i : ℕ) → All P xs → All P (remove xs i)
+All-remove P xs i all = All-append P _ _ (All-take P i xs all) (All-drop P (suc i) xs all)
+
+-- what holds of each item holds of one that stands in the list
+pub All-slice_get : {A : Type 0} (P : A → Type 0) (xs : List A) (i : ℕ) (x : A) → All P xs → slice_get xs i ≡ Some x → P x
+All-slice_get P xs i x all at = subst P (get_or_from_slice_get xs i x x at) (all i x (slice_get_within xs i x at))

@@ -1,0 +1,11 @@
+use Rattle.std.proofs.Common.{◌≡◌, ◌+◌, ◌≤◌, map, take, None}
+use Rattle.cl_value.specs.Replay.{first_match}
+use Rattle.cl_list.proofs.listed.search.Given as goal
+
+abbrev pub invariant-loop-place : goal.invariant-loop-place
+invariant-loop-place g l =
+    record {
+      before : first_match (map (λ t. t.items) (take l.place l.tuples)) l.template.items ≡ None;
+      cost : l.steps ≤ l.fn.steps + l.place;
+      later : l.fn.steps ≤ l.steps;
+    }

@@ -1,0 +1,164 @@
+use cl_value::{Items, NoMemory, Steps, Template, Tuple};
+use std::alloc::Global;
+use std::marker::Model;
+use std::sync::ledger::Ledger;
+
+/// A list of tuples that is searched from its oldest tuple on.
+///
+/// Contracts see its tuples in order of adding, and whether one more can be added without a growth. It
+/// keeps a tuple with room for 16 fields ready, so that `add` takes no memory, and it takes the buffer of
+/// a removed tuple for the next. (This project.)
+#[derive(Drop)]
+pub struct Listed {
+    tuples: Items<Tuple>,
+    buffer: Option<Tuple>,
+    alloc: Global,
+}
+
+impl Model for Listed {
+    ghost use Rattle.std.specs.Prelude.{map, All, IfSome};
+    ghost use Rattle.cl_value.specs.Room.{HasRoom};
+    ghost use Rattle.cl_list.specs.Listing.{Listing, can_add};
+
+    ghost Value = { Listing };
+
+    ghost view = { λ l. record { tuples = map (λ t. t.items) l.tuples.items; room = can_add l.tuples.spare l.buffer } };
+
+    ghost invariant = { λ l. All (HasRoom 16) l.tuples.items × IfSome l.buffer (HasRoom 16) };
+}
+
+impl Listed {
+    ghost use Rattle.std.specs.Prelude.{◌≡◌, ◌+◌, ◌≤◌, [], ◌∷◌, ◌++◌, true, false, length, is_some, IsTrue, OnOk, Some};
+    ghost use Rattle.cl_value.specs.Room.{HasRoom, capacity_of};
+    ghost use Rattle.cl_value.specs.Replay.{first_match, found, without_first};
+    ghost use Rattle.cl_list.specs.Listing.{Listing};
+
+    /// A list of no tuple. It keeps the allocator for its later growths.
+    pub fn new(alloc: Global) -> Listed
+        ensures tuples { result.tuples ≡ [] }
+    {
+        Listed {
+            tuples: Items::new(alloc),
+            buffer: None,
+            alloc,
+        }
+    }
+
+    /// Makes room for one more tuple, all that the next `add` needs. The tuples stay, whatever the answer.
+    pub fn reserve(&mut self, _tuple: &Tuple) -> Result<(), NoMemory>
+        ensures tuples { self.new.tuples ≡ self.old.tuples }
+        ensures room { OnOk result (IsTrue self.new.room) }
+    {
+        self.tuples.reserve(1)?;
+        if self.buffer.is_none() {
+            let buffer = Tuple::with_room(self.alloc)?;
+            self.buffer = Some(buffer);
+        }
+        Ok(())
+    }
+
+    /// Puts an equal tuple last, into room that was made before. It takes no memory.
+    pub fn add(&mut self, tuple: &Tuple)
+        requires { IsTrue self.old.room }
+        ensures tuples { self.new.tuples ≡ self.old.tuples ++ tuple.now.items ∷ [] }
+    {
+        match self.buffer.take() {
+            Some(mut buffer) => {
+                refill(&mut buffer, tuple);
+                self.tuples.push(buffer);
+            }
+            None => unreachable!(),
+        }
+    }
+
+    /// Takes out the first tuple that matches, and puts its fields into `into`. It takes no memory.
+    pub fn take<L: Ledger>(
+        &mut self,
+        template: &Template,
+        into: &mut Tuple,
+        steps: &mut Steps<L>,
+    ) -> bool
+        requires { HasRoom 16 into.old }
+        ensures value { result ≡ is_some (first_match self.old.tuples template.now.items) }
+        ensures taken { result ≡ true →
+            (found self.old.tuples template.now.items ≡ Some into.new.items)
+            × (self.new.tuples ≡ without_first self.old.tuples template.now.items) }
+        ensures unchanged { result ≡ false → (self.new.tuples ≡ self.old.tuples) × (into.new ≡ into.old) }
+        ensures room { capacity_of into.new ≡ capacity_of into.old }
+        ensures cost { steps.new ≤ steps.old + length self.old.tuples }
+        ensures later { steps.old ≤ steps.new }
+    {
+        match search(self.tuples.as_slice(), template, steps) {
+            None => false,
+            Some(place) => {
+                let tuple = self.tuples.remove(place);
+                refill(into, &tuple);
+                self.buffer = Some(tuple);
+                true
+            }
+        }
+    }
+
+    /// Puts the fields of the first tuple that matches into `into`. It takes no memory.
+    pub fn find<L: Ledger>(
+        &self,
+        template: &Template,
+        into: &mut Tuple,
+        steps: &mut Steps<L>,
+    ) -> bool
+        requires { HasRoom 16 into.old }
+        ensures value { result ≡ is_some (first_match self.now.tuples template.now.items) }
+        ensures read { result ≡ true → found self.now.tuples template.now.items ≡ Some into.new.items }
+        ensures unchanged { result ≡ false → into.new ≡ into.old }
+        ensures room { capacity_of into.new ≡ capacity_of into.old }
+        ensures cost { steps.new ≤ steps.old + length self.now.tuples }
+        ensures later { steps.old ≤ steps.new }
+    {
+        match search(self.tuples.as_slice(), template, steps) {
+            None => false,
+            Some(place) => {
+                refill(into, self.tuples.at(place));
+                true
+            }
+        }
+    }
+
+    /// The number of tuples.
+    #[allow(clippy::len_without_is_empty)]
+    pub fn len(&self) -> u64
+        ensures { result ≡ length self.now.tuples }
+    {
+        self.tuples.len() as u64
+    }
+}
+
+ghost use Rattle.std.specs.Prelude.{◌≡◌, ◌+◌, ◌≤◌, length, map};
+ghost use Rattle.cl_value.specs.Room.{Room, HasRoom, capacity_of};
+ghost use Rattle.cl_value.specs.Replay.{first_match};
+
+// The place of the first tuple that matches, after one comparison for each tuple up to it.
+fn search<L: Ledger>(tuples: &[Tuple], template: &Template, steps: &mut Steps<L>) -> Option<usize>
+    ensures place { result ≡ first_match (map (λ t. t.items) tuples.now) template.now.items }
+    ensures cost { steps.new ≤ steps.old + length tuples.now }
+    ensures later { steps.old ≤ steps.new }
+{
+    for (place, tuple) in tuples.iter().enumerate() {
+        if template.test(tuple, steps) {
+            return Some(place);
+        }
+    }
+    None
+}
+
+// Makes `into` the tuple of the same fields, in its own room.
+fn refill(into: &mut Tuple, from: &Tuple)
+    requires { HasRoom 16 into.old }
+    ensures fields { into.new.items ≡ from.now.items }
+    ensures room { capacity_of into.new ≡ capacity_of into.old }
+{
+    let count = from.len();
+    into.restart(from.field(0));
+    for i in 1..count {
+        into.push(from.field(i));
+    }
+}

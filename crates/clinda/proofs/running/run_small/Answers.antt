@@ -1,0 +1,48 @@
+use Rattle.std.proofs.Common.{◌≡◌, ◌≤◌, ◌+◌, ℕ, List, [], ◌<◌, arith, ap, ◌∙◌, sym, subst, length}
+use Rattle.std.specs.Prelude.{map}
+use Rattle.std.specs.List.{AllByRecursion}
+use Rattle.std.proofs.lemmas.Result.{IfOk-weaker}
+use Rattle.cl_value.specs.Room.{Room}
+use Rattle.clinda.specs.Moment.{beginning}
+use Rattle.cl_value.specs.Views.{plain_run}
+use Rattle.cl_model.specs.Good.{GoodRun, Turns}
+use Rattle.cl_model.specs.Small.{PlainItem, operations_in}
+use Rattle.cl_model.specs.SmallViews.{plain_item, plain_unit}
+use Rattle.cl_model.specs.SmallMeaning.{texts_of, small_demands, small_sets}
+use Rattle.clinda.specs.Tables.{table}
+use Rattle.clinda.specs.Leaving.{end_of, LeavesAt}
+use Rattle.clinda.specs.Standing.{Stands, IsSound, run_of}
+use Rattle.clinda.proofs.Standing.{keeps_sound, fields_few, begins}
+use Rattle.clinda.proofs.Goods.{run_is_good}
+use Rattle.clinda.proofs.running.run_small.Goals as goal
+
+pub perform_all-left-requires-clause-sound : goal.perform_all-left-requires-clause-sound
+perform_all-left-requires-clause-sound g c =
+    subst (λ xs. AllByRecursion IsSound (map plain_item xs)) (sym c.as_slice-items.ensures) (keeps_sound [] (plain_unit c.args.unit.now) c.requires.rules)
+
+pub perform_all-left-requires-clause-texts : goal.perform_all-left-requires-clause-texts
+perform_all-left-requires-clause-texts g c =
+    let few = c.in_ok-texts.ensures.few in
+    let some = fields_few (map plain_item c.as_slice-items.result.now) (perform_all-left-requires-clause-sound g c) in
+    let operations : operations_in (map plain_item c.as_slice-items.result.now) ≤ 1024 = subst (λ xs. operations_in (map plain_item xs) ≤ 1024) (sym c.as_slice-items.ensures) c.requires.operations in
+    let bound : length c.in_ok-texts.texts.items < 4294967296 = omega arith in
+    subst (λ (xs : List (Room ℕ)). length xs < 4294967296) (sym c.as_slice.ensures) bound
+
+pub returns : goal.returns
+returns g c =
+    let unit = plain_unit c.args.unit.now in
+    let items = c.as_slice-items.result.now in
+    let same = c.as_slice-items.ensures in
+    let stage = c.perform_all-left.new.stage in
+    let left = c.perform_all-left.result in
+    let texts : table c.as_slice.result.now ≡ texts_of unit = ap table c.as_slice.ensures ∙ (c.in_ok-texts.ensures.texts ∙ ap (λ xs. texts_of (map plain_item xs)) same) in
+    let at_first : Stands unit (map plain_item items) beginning = subst (λ xs. Stands unit (map plain_item xs) beginning) (sym same) (begins unit) in
+    let begun : Stands unit (map plain_item items) c.new-stage.result = subst (λ m. Stands unit (map plain_item items) m) (sym c.new-stage.ensures) at_first in
+    let leaves : LeavesAt unit stage left = c.perform_all-left.ensures unit texts begun in
+    let good = run_is_good unit stage (end_of left) leaves in
+    let operations : c.operations_in.result ≡ operations_in unit = c.operations_in.ensures ∙ ap (λ xs. operations_in (map plain_item xs)) same in
+    record {
+      good = IfOk-weaker c.report_of.result (λ run. plain_run run ≡ run_of c.operations_in.result stage (end_of left)) (λ run. GoodRun (small_demands unit) (small_sets unit) Turns (plain_run run))
+        (λ run h. subst (λ r. GoodRun (small_demands unit) (small_sets unit) Turns r) (sym (h ∙ ap (λ n. run_of n stage (end_of left)) operations)) good)
+        c.report_of.ensures;
+    }

@@ -1,0 +1,4 @@
+pub mod Tables
+pub mod Moment
+pub mod Standing
+pub mod Leaving
