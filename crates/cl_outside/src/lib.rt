@@ -5,15 +5,19 @@
 //! write has failed. The files are in the order in which they stand on one another:
 //!
 //! - `stream`: what a source and a sink are.
+//! - `bytes`: what is done with bytes in memory.
 //! - `memory_source` and `memory_sink`: both in memory, which fail where they are told to.
 //! - `wrapped`: a reader and a writer of the library as a source and a sink.
 //! - `reading` and `writing`: to read all there is, up to a limit, and to write all.
 #![tactic(auto)]
 
+mod bytes;
 mod memory_sink;
 mod memory_source;
 mod reading;
 mod stream;
+#[cfg(test)]
+mod tests;
 mod wrapped;
 mod writing;
 

@@ -1,4 +1,4 @@
-use crate::memory_source::is_listed;
+use crate::bytes::{is_listed, push_all};
 use crate::{Failed, Sink};
 use cl_value::{Items, NoMemory};
 use std::alloc::Global;
@@ -37,7 +37,10 @@ impl MemSink {
     ghost use Rattle.cl_outside.specs.Memory.{Output};
 
     /// A sink with room for `room` bytes. A call takes at most `piece` bytes, and the calls with the listed
-    /// numbers, counted from 1, fail, and so do those that find no room.
+    /// numbers, counted from 1, fail, and so do those that find no room. The last number of 64 bits stands
+    /// for all calls from that one on.
+    ///
+    /// `NoMemory` comes where the allocator refused that room.
     pub fn new(
         alloc: Global,
         room: usize,
@@ -118,19 +121,5 @@ impl Sink for MemSink {
         push_all(&mut self.bytes, &bytes[..count]);
         self.room -= count;
         Ok(count)
-    }
-}
-
-ghost use Rattle.std.specs.Prelude.{◌≡◌, ◌+◌, ◌≤◌, ◌++◌, length};
-ghost use Rattle.cl_value.specs.Room.{Room};
-
-// Puts these bytes last, into room that was made before.
-pub(crate) fn push_all(items: &mut Items<u8>, bytes: &[u8])
-    requires { length bytes.now ≤ items.old.spare }
-    ensures items { items.new.items ≡ items.old.items ++ bytes.now }
-    ensures spare { items.new.spare + length bytes.now ≡ items.old.spare }
-{
-    for byte in bytes {
-        items.push(*byte);
     }
 }

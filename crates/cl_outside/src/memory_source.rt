@@ -1,3 +1,4 @@
+use crate::bytes::{copy_front, is_listed};
 use crate::{Failed, Source};
 use std::marker::Model;
 
@@ -28,12 +29,11 @@ impl Model for MemSource {
 }
 
 impl MemSource {
-    ghost use Rattle.std.specs.Prelude.{◌≡◌, ◌<◌, ◌↔◌, length, take, drop, min, IsErr, IfOk, OnErr};
-    ghost use Rattle.cl_outside.specs.Faults.{raised};
-    ghost use Rattle.cl_outside.specs.Memory.{Input, ReadFails};
+    ghost use Rattle.std.specs.Prelude.{◌≡◌, ◌<◌};
+    ghost use Rattle.cl_outside.specs.Memory.{Input};
 
     /// A source of these bytes. A call gives at most `piece` of them, and the calls with the listed numbers,
-    /// counted from 1, fail.
+    /// counted from 1, fail. The last number of 64 bits stands for all calls from that one on.
     pub fn new(bytes: Vec<u8>, piece: usize, failing: Vec<u64>) -> MemSource
         requires { 0 < piece }
         ensures left { result.left ≡ bytes.items }
@@ -68,7 +68,7 @@ impl MemSource {
 }
 
 impl Source for MemSource {
-    ghost use Rattle.std.specs.Prelude.{◌≡◌, ◌<◌, ◌≤◌, ◌↔◌, length, take, drop, min, IsErr, IfOk, OnErr, Some};
+    ghost use Rattle.std.specs.Prelude.{◌≡◌, ◌<◌, ◌≤◌, ◌↔◌, length, min, IsErr, IfOk, OnErr, Some};
     ghost use Rattle.cl_outside.specs.Faults.{HasCause, raised};
     ghost use Rattle.cl_outside.specs.Streams.{Takes, EndsAt};
     ghost use Rattle.cl_outside.specs.Memory.{Input, ReadFails};
@@ -106,21 +106,4 @@ impl Source for MemSource {
         self.at += count;
         Ok(count)
     }
-}
-
-ghost use Rattle.std.specs.Prelude.{◌≡◌, ◌≤◌, ◌↔◌, ◌++◌, IsTrue, Contains, length, drop};
-
-// The number is one of those listed.
-pub(crate) fn is_listed(numbers: &[u64], number: u64) -> bool
-    ensures { IsTrue result ↔ Contains numbers.now number }
-{
-    numbers.contains(&number)
-}
-
-// Puts these bytes in the place of the first ones.
-fn copy_front(into: &mut [u8], bytes: &[u8])
-    requires { length bytes.now ≤ length into.old }
-    ensures { into.new ≡ bytes.now ++ drop (length bytes.now) into.old }
-{
-    into[..bytes.len()].copy_from_slice(bytes);
 }

@@ -1,4 +1,4 @@
-use crate::memory_sink::push_all;
+use crate::bytes::push_all;
 use crate::{Failed, Source};
 use cl_value::Items;
 use std::alloc::Global;
@@ -14,6 +14,7 @@ pub enum ReadEnd {
     NoMemory,
 }
 
+// The most bytes of one read.
 const BUFFER: usize = 4096;
 
 ghost use Rattle.std.specs.Prelude.{◌≡◌, ◌⊎◌, ◌+◌, ◌-◌, ◌^◌, ◌<◌, ◌≤◌, length, IfOk, IsErrOf};
@@ -24,7 +25,8 @@ ghost use Rattle.cl_outside.specs.Streams.{TakesAll, Loses, LosesUpTo};
 /// Reads all there is, up to `max` bytes.
 ///
 /// `TooLarge` comes where there is one byte more, and then that many are lost. `Fault` comes where a read
-/// failed, and `NoMemory` where a growth was refused. After these two at most `max` bytes are lost.
+/// failed, and `NoMemory` where a growth was refused, which is before the read that it was for. After these
+/// two at most `max` bytes are lost.
 pub fn read_all<I: Source>(alloc: Global, src: &mut I, max: usize) -> Result<Items<u8>, ReadEnd>
     requires { max < 2 ^ 64 - 1 }
 

@@ -2,7 +2,8 @@ use crate::{Failed, Sink, Source};
 use std::io::{Read, Write};
 use std::marker::Model;
 
-/// A reader of the library as a source. Each error that it gives raises the count of faults.
+/// A reader of the library as a source. Each error that it gives, also at an interrupted call, raises the
+/// count of faults.
 ///
 /// Contracts see the reader and the count. As a source it tells nothing of its bytes.
 #[derive(Drop)]
@@ -37,15 +38,23 @@ impl<R> ReaderSource<R> {
 impl<R: Read + Drop> Source for ReaderSource<R> {
     ghost use Rattle.std.specs.Prelude.{◌≡◌, ◌<◌, ◌≤◌, length, IfOk, OnErr, None};
     ghost use Rattle.std.specs.Io.KnownBytes.{ReadConsumes};
-    ghost use Rattle.cl_outside.specs.Faults.{HasCause};
-    ghost use Rattle.cl_outside.specs.Streams.{Takes, EndsAt};
+    ghost use Rattle.cl_outside.specs.Faults.{HasCause, raised};
     ghost use Rattle.cl_outside.specs.Wrapped.{Wrapped};
 
     ghost left = { λ _. None };
 
     ghost faults = { λ s. s.faults };
 
-    fn read(&mut self, into: &mut [u8]) -> Result<usize, Failed> {
+    /// One read of the reader. `given` is what the library says of the bytes of a reader that tells them.
+    fn read(&mut self, into: &mut [u8]) -> Result<usize, Failed>
+        requires { 0 < length into.old }
+
+        ensures within { IfOk result (λ n. n ≤ length into.old) }
+        ensures cause { HasCause self.old.faults self.new.faults result }
+
+        ensures given { ReadConsumes (R.remaining self.old.inner) (R.remaining self.new.inner) result into.new }
+        ensures fault { OnErr result (self.new.faults ≡ raised self.old.faults) }
+    {
         match self.reader.read(into) {
             Ok(count) => Ok(count),
             Err(_) => {
@@ -56,8 +65,8 @@ impl<R: Read + Drop> Source for ReaderSource<R> {
     }
 }
 
-/// A writer of the library as a sink. Each error that it gives raises the count of faults, and so does a
-/// write that takes nothing.
+/// A writer of the library as a sink. Each error that it gives, also at an interrupted call, raises the
+/// count of faults, and so does a write that takes nothing.
 ///
 /// It never flushes: the writer should keep no bytes back, as the standard output keeps none. Contracts see
 /// the writer and the count. As a sink it tells nothing of its bytes.
@@ -99,17 +108,26 @@ impl<W> WriterSink<W> {
 }
 
 impl<W: Write + Drop> Sink for WriterSink<W> {
-    ghost use Rattle.std.specs.Prelude.{◌≡◌, ◌<◌, ◌≤◌, length, take, IfOk, OnErr, None};
+    ghost use Rattle.std.specs.Prelude.{◌≡◌, ◌<◌, ◌≤◌, length, IfOk, OnErr, None};
     ghost use Rattle.std.specs.Io.KnownBytes.{WriteAppends};
-    ghost use Rattle.cl_outside.specs.Faults.{HasCause};
-    ghost use Rattle.cl_outside.specs.Streams.{Appends};
+    ghost use Rattle.cl_outside.specs.Faults.{HasCause, raised};
     ghost use Rattle.cl_outside.specs.Wrapped.{Wrapped};
 
     ghost written = { λ _. None };
 
     ghost faults = { λ s. s.faults };
 
-    fn write(&mut self, bytes: &[u8]) -> Result<usize, Failed> {
+    /// One write of the writer. `given` is what the library says of the bytes of a writer that tells them.
+    fn write(&mut self, bytes: &[u8]) -> Result<usize, Failed>
+        requires { 0 < length bytes.now }
+
+        ensures some { IfOk result (λ n. 0 < n) }
+        ensures within { IfOk result (λ n. n ≤ length bytes.now) }
+        ensures cause { HasCause self.old.faults self.new.faults result }
+
+        ensures given { WriteAppends (W.contents self.old.inner) (W.contents self.new.inner) result bytes.now }
+        ensures fault { OnErr result (self.new.faults ≡ raised self.old.faults) }
+    {
         match self.writer.write(bytes) {
             Ok(count) if count > 0 => Ok(count),
             _ => {

@@ -21,12 +21,16 @@ abbrev pub escaped_all : List ℕ → List ℕ
 escaped_all [] = []
 escaped_all (byte ∷ bytes) = escaped byte ++ escaped_all bytes
 
--- a value as it is printed; a text stands in the table of the program's texts
+-- the text of a number in the table of the program's texts, or nothing
+abbrev pub text_in : List (List ℕ) → ℕ → List ℕ
+text_in texts n = unwrap_or (slice_get texts n) []
+
+-- a value as it is printed
 abbrev pub value_text : List (List ℕ) → Value → List ℕ
 value_text texts (values.Int n) = signed_decimal n
 value_text texts (values.Long n) = signed_decimal n ++ codes "L"
 value_text texts (values.Char n) = decimal n ++ codes "C"
-value_text texts (values.Text n) = codes "\"" ++ escaped_all (unwrap_or (slice_get texts n) []) ++ codes "\""
+value_text texts (values.Text n) = codes "\"" ++ escaped_all (text_in texts n) ++ codes "\""
 
 -- values after the first, each behind a comma
 abbrev pub more_values_text : List (List ℕ) → List Value → List ℕ

@@ -1,8 +1,10 @@
 //! The program: it reads a source and the words of a command, runs the source and writes its text.
 #![tactic(auto)]
 
+mod report_text;
 mod running;
 mod stage;
 mod tables;
+mod text;
 
 fn main() {}

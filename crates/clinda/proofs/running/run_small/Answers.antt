@@ -43,6 +43,6 @@ returns g c =
     let operations : c.operations_in.result ≡ operations_in unit = c.operations_in.ensures ∙ ap (λ xs. operations_in (map plain_item xs)) same in
     record {
       good = IfOk-weaker c.report_of.result (λ run. plain_run run ≡ run_of c.operations_in.result stage (end_of left)) (λ run. GoodRun (small_demands unit) (small_sets unit) Turns (plain_run run))
-        (λ run h. subst (λ r. GoodRun (small_demands unit) (small_sets unit) Turns r) (sym (h ∙ ap (λ n. run_of n stage (end_of left)) operations)) good)
-        c.report_of.ensures;
+          (λ run h. subst (λ r. GoodRun (small_demands unit) (small_sets unit) Turns r) (sym (h ∙ ap (λ n. run_of n stage (end_of left)) operations)) good)
+          c.report_of.ensures;
     }

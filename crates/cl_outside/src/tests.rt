@@ -1,0 +1,110 @@
+use crate::{MemSink, MemSource, ReadEnd, ReaderSource, WriteEnd, WriterSink, read_all, write_all};
+use std::io;
+use std::io::{Error, ErrorKind, Read};
+use std::test::Fail;
+
+const TEXT: &[u8; 16] = b"tuples and more.";
+
+#[test]
+fn pieces_make_the_whole(rt: HostRuntime) -> Result<(), Fail> {
+    let alloc = rt.alloc();
+    for piece in [1, 7] {
+        let mut src = MemSource::new(TEXT.to_vec(alloc)?, piece, Vec::new(alloc));
+        let all = read_all(alloc, &mut src, 100)?;
+        assert_eq!(rt; all.as_slice(), TEXT.as_slice(), "in pieces of {piece}");
+        assert_eq!(rt; src.left().len(), 0);
+        assert_eq!(rt; src.faults(), 0);
+    }
+    Ok(())
+}
+
+#[test]
+fn the_second_read_fails(rt: HostRuntime) -> Result<(), Fail> {
+    let alloc = rt.alloc();
+    let mut src = MemSource::new(TEXT.to_vec(alloc)?, 5, [2].to_vec(alloc)?);
+    assert_eq!(rt; read_all(alloc, &mut src, 100).err(), Some(ReadEnd::Fault));
+    assert_eq!(rt; src.left(), b"s and more.".as_slice());
+    assert_eq!(rt; src.faults(), 1);
+    let rest = read_all(alloc, &mut src, 100)?;
+    assert_eq!(rt; rest.as_slice(), b"s and more.".as_slice());
+    assert_eq!(rt; src.faults(), 1);
+    Ok(())
+}
+
+#[test]
+fn the_limit_counts_in_bytes(rt: HostRuntime) -> Result<(), Fail> {
+    let alloc = rt.alloc();
+    let mut src = MemSource::new(TEXT.to_vec(alloc)?, 7, Vec::new(alloc));
+    assert_eq!(rt; read_all(alloc, &mut src, 16)?.as_slice(), TEXT.as_slice());
+    let mut src = MemSource::new(TEXT.to_vec(alloc)?, 7, Vec::new(alloc));
+    assert_eq!(rt;
+        read_all(alloc, &mut src, 14).err(),
+        Some(ReadEnd::TooLarge)
+    );
+    assert_eq!(rt; src.left(), b".".as_slice());
+    Ok(())
+}
+
+#[test]
+fn the_third_write_fails(rt: HostRuntime) -> Result<(), Fail> {
+    let alloc = rt.alloc();
+    let mut sink = MemSink::new(alloc, 40, 5, [3].to_vec(alloc)?)?;
+    let end = write_all(&mut sink, TEXT);
+    assert_eq!(rt; end, Err(WriteEnd::Fault { written: 10 }));
+    assert_eq!(rt; sink.written(), b"tuples and".as_slice());
+    assert_eq!(rt; sink.faults(), 1);
+    assert_eq!(rt; write_all(&mut sink, b" more."), Ok(()));
+    assert_eq!(rt; sink.written(), TEXT.as_slice());
+    Ok(())
+}
+
+#[test]
+fn a_full_sink_fails(rt: HostRuntime) -> Result<(), Fail> {
+    let alloc = rt.alloc();
+    let mut sink = MemSink::new(alloc, 8, 5, Vec::new(alloc))?;
+    let end = write_all(&mut sink, TEXT);
+    assert_eq!(rt; end, Err(WriteEnd::Fault { written: 8 }));
+    assert_eq!(rt; sink.written(), b"tuples a".as_slice());
+    Ok(())
+}
+
+// Gives one byte, then fails, and so on.
+#[derive(Drop)]
+struct Flaky {
+    is_failing: bool,
+}
+
+impl Read for Flaky {
+    fn read(&mut self, buf: &mut [u8]) -> io::Result<usize> {
+        let fails = self.is_failing;
+        self.is_failing = !fails;
+        if fails || buf.is_empty() {
+            return Err(Error::from(ErrorKind::Other));
+        }
+        buf[0] = b'x';
+        Ok(1)
+    }
+}
+
+#[test]
+fn readers_are_sources(rt: HostRuntime) -> Result<(), Fail> {
+    let alloc = rt.alloc();
+    let mut src = ReaderSource::new(TEXT.as_slice());
+    assert_eq!(rt; read_all(alloc, &mut src, 100)?.as_slice(), TEXT.as_slice());
+    let mut src = ReaderSource::new(Flaky { is_failing: false });
+    assert_eq!(rt; read_all(alloc, &mut src, 100).err(), Some(ReadEnd::Fault));
+    Ok(())
+}
+
+#[test]
+fn writers_are_sinks(rt: HostRuntime) -> Result<(), Fail> {
+    let alloc = rt.alloc();
+    let mut sink = WriterSink::new(Vec::new(alloc));
+    assert_eq!(rt; write_all(&mut sink, TEXT), Ok(()));
+    assert_eq!(rt; sink.into_inner().as_slice(), TEXT.as_slice());
+    let mut buffer = [0; 3];
+    let mut sink = WriterSink::new(buffer.as_mut_slice());
+    let end = write_all(&mut sink, TEXT);
+    assert_eq!(rt; end, Err(WriteEnd::Fault { written: 3 }));
+    Ok(())
+}

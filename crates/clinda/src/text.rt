@@ -1,0 +1,79 @@
+use cl_value::{Items, NoMemory};
+use std::alloc::{AllocError, Global};
+use std::marker::Model;
+
+/// Bytes that are put together before they are written. Contracts see them in order.
+#[derive(Drop)]
+pub struct Text {
+    bytes: Items<u8>,
+}
+
+impl Model for Text {
+    ghost use Rattle.std.specs.Prelude.{List, ℕ};
+
+    ghost Value = { List ℕ };
+
+    ghost view = { λ t. t.bytes.items };
+}
+
+impl Text {
+    ghost use Rattle.std.specs.Prelude.{◌≡◌, [], ◌++◌, OnOk};
+    ghost use Rattle.std.specs.Fmt.{decimal, signed_decimal};
+
+    /// No bytes.
+    pub fn new(alloc: Global) -> Text
+        ensures { result ≡ [] }
+    {
+        Text {
+            bytes: Items::new(alloc),
+        }
+    }
+
+    /// Puts bytes at the end.
+    pub fn add(&mut self, bytes: &[u8]) -> Result<(), NoMemory>
+        ensures ok { OnOk result (self.new ≡ self.old ++ bytes.now) }
+    {
+        push_all(&mut self.bytes, bytes)
+    }
+
+    /// Puts a number at the end, decimal without leading zeros.
+    pub fn add_number(&mut self, alloc: Global, number: u64) -> Result<(), NoMemory>
+        ensures ok { OnOk result (self.new ≡ self.old ++ decimal number) }
+    {
+        match number.to_string(alloc) {
+            Ok(digits) => self.add(digits.as_bytes()),
+            Err(AllocError) => Err(NoMemory),
+        }
+    }
+
+    /// Puts a number at the end, decimal without leading zeros, with `-` where it is negative.
+    pub fn add_signed(&mut self, alloc: Global, number: i64) -> Result<(), NoMemory>
+        ensures ok { OnOk result (self.new ≡ self.old ++ signed_decimal number) }
+    {
+        match number.to_string(alloc) {
+            Ok(digits) => self.add(digits.as_bytes()),
+            Err(AllocError) => Err(NoMemory),
+        }
+    }
+
+    /// The bytes in order.
+    pub fn as_bytes(&self) -> &[u8]
+        ensures { result.now ≡ self.now }
+    {
+        self.bytes.as_slice()
+    }
+}
+
+ghost use Rattle.std.specs.Prelude.{◌≡◌, ◌++◌, OnOk};
+ghost use Rattle.cl_value.specs.Room.{Room};
+
+// Puts bytes at the end of others.
+fn push_all(items: &mut Items<u8>, bytes: &[u8]) -> Result<(), NoMemory>
+    ensures ok { OnOk result (items.new.items ≡ items.old.items ++ bytes.now) }
+{
+    items.reserve(bytes.len())?;
+    for byte in bytes {
+        items.push(*byte);
+    }
+    Ok(())
+}
