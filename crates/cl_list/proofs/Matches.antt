@@ -19,17 +19,17 @@ first_match-yes t ts m met = rw met
 pub first_match-no : (t : List Value) (ts : List (List Value)) (m : List Slot) → matches m t ≡ false → first_match (t ∷ ts) m ≡ option_map suc (first_match ts m)
 first_match-no t ts m unmet = rw unmet
 
--- what is one place on is somewhere only if it was
+-- no place, moved one on, was no place
 pub option_map-none : (place : Option ℕ) → option_map suc place ≡ None → place ≡ None
 option_map-none None h = refl
 option_map-none (Some i) h = cc
 
--- what is one place on at a place was at the place before
+-- a place, moved one on, was the place before
 pub option_map-some : (place : Option ℕ) (i : ℕ) → option_map suc place ≡ Some i → (j : ℕ) × ((place ≡ Some j) × (i ≡ suc j))
 option_map-some None i h = cc
 option_map-some (Some j) i h = (j, (refl, (cc)))
 
--- after tuples that do not match, the first match is that of the others, as many places on
+-- after tuples that do not match, one that matches is the first match
 pub first_match-end : (ts us : List (List Value)) (t : List Value) (m : List Slot) → first_match ts m ≡ None → matches m t ≡ true → first_match (ts ++ t ∷ us) m ≡ Some (length ts)
 first_match-end [] us t m none met = first_match-yes t us m met
 first_match-end (s ∷ ts) us t m none met =
@@ -114,10 +114,6 @@ first_match-further v xs i x m lt at none unmet =
 pub map-remove : {A B : Type 0} (v : A → B) (xs : List A) (i : ℕ) → map v (remove xs i) ≡ remove (map v xs) i
 map-remove v xs i = rw (map-append, take-map, drop-map) refl
 
--- one more item of the list, which stands at the place
-pub take-slice_get : {A : Type 0} (xs : List A) (i : ℕ) (x : A) → slice_get xs i ≡ Some x → take (i + 1) xs ≡ take i xs ++ x ∷ []
-take-slice_get xs i x h = take_more xs i x (slice_get_within xs i x h) ∙ ap (λ y. take i xs ++ y ∷ []) (get_or_from_slice_get xs i x x h)
-
 -- a place of the first match lies within the list whose views are searched
 pub view_within : {A : Type 0} (v : A → List Value) (xs : List A) (m : List Slot) (i : ℕ) → first_match (map v xs) m ≡ Some i → i < length xs
 view_within v xs m i h = rw (length-map xs v) at (first_match-within (map v xs) m i h)
@@ -137,3 +133,12 @@ All-remove P xs i all = All-append P _ _ (All-take P i xs all) (All-drop P (suc 
 -- what holds of each item holds of one that stands in the list
 pub All-slice_get : {A : Type 0} (P : A → Type 0) (xs : List A) (i : ℕ) (x : A) → All P xs → slice_get xs i ≡ Some x → P x
 All-slice_get P xs i x all at = subst P (get_or_from_slice_get xs i x x at) (all i x (slice_get_within xs i x at))
+
+-- the step of a search, and its end
+pub ruleset searches = (first_match-here, first_match-further)
+
+-- what stands at the place of the first match
+pub ruleset reads = (view_within, view_found)
+
+-- what is left without the first match
+pub ruleset finds = (first_match-within, without_first-at)

@@ -28,7 +28,7 @@ impl Model for Listed {
 }
 
 impl Listed {
-    ghost use Rattle.std.specs.Prelude.{◌≡◌, ◌+◌, ◌≤◌, [], ◌∷◌, ◌++◌, true, false, length, is_some, IsTrue, OnOk, Some};
+    ghost use Rattle.std.specs.Prelude.{◌≡◌, ◌+◌, ◌<◌, ◌≤◌, [], ◌∷◌, ◌++◌, true, false, length, remove, is_some, IsTrue, IsNone, OnSome, OnOk, Some};
     ghost use Rattle.cl_value.specs.Room.{HasRoom, capacity_of};
     ghost use Rattle.cl_value.specs.Replay.{first_match, found, without_first};
     ghost use Rattle.cl_list.specs.Listing.{Listing};
@@ -64,7 +64,7 @@ impl Listed {
     {
         match self.buffer.take() {
             Some(mut buffer) => {
-                refill(&mut buffer, tuple);
+                buffer.refill(tuple);
                 self.tuples.push(buffer);
             }
             None => unreachable!(),
@@ -72,6 +72,7 @@ impl Listed {
     }
 
     /// Takes out the first tuple that matches, and puts its fields into `into`. It takes no memory.
+    #[tactic(auto, using(crate::proofs::Matches::finds))]
     pub fn take<L: Ledger>(
         &mut self,
         template: &Template,
@@ -88,18 +89,17 @@ impl Listed {
         ensures cost { steps.new ≤ steps.old + length self.old.tuples }
         ensures later { steps.old ≤ steps.new }
     {
-        match search(self.tuples.as_slice(), template, steps) {
+        match self.copy_first(template, into, steps) {
             None => false,
             Some(place) => {
-                let tuple = self.tuples.remove(place);
-                refill(into, &tuple);
-                self.buffer = Some(tuple);
+                self.remove(place);
                 true
             }
         }
     }
 
     /// Puts the fields of the first tuple that matches into `into`. It takes no memory.
+    #[tactic(auto, using(crate::proofs::Matches::finds))]
     pub fn find<L: Ledger>(
         &self,
         template: &Template,
@@ -114,13 +114,7 @@ impl Listed {
         ensures cost { steps.new ≤ steps.old + length self.now.tuples }
         ensures later { steps.old ≤ steps.new }
     {
-        match search(self.tuples.as_slice(), template, steps) {
-            None => false,
-            Some(place) => {
-                refill(into, self.tuples.at(place));
-                true
-            }
-        }
+        self.copy_first(template, into, steps).is_some()
     }
 
     /// The number of tuples.
@@ -130,13 +124,43 @@ impl Listed {
     {
         self.tuples.len() as u64
     }
+
+    // The place of the first tuple that matches, whose fields it puts into `into`.
+    #[tactic(auto, using(crate::proofs::Matches::reads))]
+    fn copy_first<L: Ledger>(
+        &self,
+        template: &Template,
+        into: &mut Tuple,
+        steps: &mut Steps<L>,
+    ) -> Option<usize>
+        requires { HasRoom 16 into.old }
+        ensures place { result ≡ first_match self.now.tuples template.now.items }
+        ensures read { OnSome result (found self.now.tuples template.now.items ≡ Some into.new.items) }
+        ensures unchanged { IsNone result → into.new ≡ into.old }
+        ensures room { capacity_of into.new ≡ capacity_of into.old }
+        ensures cost { steps.new ≤ steps.old + length self.now.tuples }
+        ensures later { steps.old ≤ steps.new }
+    {
+        let place = search(self.tuples.as_slice(), template, steps)?;
+        into.refill(self.tuples.at(place));
+        Some(place)
+    }
+
+    // Takes out the tuple at a place, and keeps its buffer for the next `add`.
+    fn remove(&mut self, place: usize)
+        requires { place < length self.old.tuples }
+        ensures { self.new.tuples ≡ remove self.old.tuples place }
+    {
+        self.buffer = Some(self.tuples.remove(place));
+    }
 }
 
 ghost use Rattle.std.specs.Prelude.{◌≡◌, ◌+◌, ◌≤◌, length, map};
 ghost use Rattle.cl_value.specs.Room.{Room, HasRoom, capacity_of};
 ghost use Rattle.cl_value.specs.Replay.{first_match};
 
-// The place of the first tuple that matches, after one comparison for each tuple up to it.
+// The place of the first tuple that matches, after at most one comparison for each tuple.
+#[tactic(auto, using(crate::proofs::Matches::searches))]
 fn search<L: Ledger>(tuples: &[Tuple], template: &Template, steps: &mut Steps<L>) -> Option<usize>
     ensures place { result ≡ first_match (map (λ t. t.items) tuples.now) template.now.items }
     ensures cost { steps.new ≤ steps.old + length tuples.now }
@@ -150,15 +174,5 @@ fn search<L: Ledger>(tuples: &[Tuple], template: &Template, steps: &mut Steps<L>
     None
 }
 
-// Makes `into` the tuple of the same fields, in its own room.
-fn refill(into: &mut Tuple, from: &Tuple)
-    requires { HasRoom 16 into.old }
-    ensures fields { into.new.items ≡ from.now.items }
-    ensures room { capacity_of into.new ≡ capacity_of into.old }
-{
-    let count = from.len();
-    into.restart(from.field(0));
-    for i in 1..count {
-        into.push(from.field(i));
-    }
-}
+#[cfg(test)]
+mod tests;

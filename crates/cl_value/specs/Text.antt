@@ -1,5 +1,5 @@
 -- The text of a run, line by line. (This project.)
-use Rattle.std.specs.Prelude.{ℕ, ◌+◌, ◌==◌, if◌then◌else◌, List, [], ◌∷◌, ◌++◌, length, codes, unwrap_or, slice_get}
+use Rattle.std.specs.Prelude.{ℕ, ◌-◌, ◌==◌, if◌then◌else◌, List, [], ◌∷◌, ◌++◌, length, codes, unwrap_or, slice_get}
 use Rattle.std.specs.Fmt.{decimal, signed_decimal}
 use Rattle.cl_value.specs.Plain.{PlainEnd, Ended, Trapped, NoThread, HistoryFull, NoMemory, Stopped, Waiting, PlainReport}
 use Rattle.cl_value.specs.declared.value.Value.{Value}
@@ -69,9 +69,7 @@ end_text texts Waiting = codes "waiting"
 
 -- the last byte, or LF where there is none
 abbrev pub last_byte : List ℕ → ℕ
-last_byte [] = 10
-last_byte (byte ∷ []) = byte
-last_byte (byte ∷ next ∷ bytes) = last_byte (next ∷ bytes)
+last_byte bytes = unwrap_or (slice_get bytes (length bytes - 1)) 10
 
 -- what a process printed, with an LF where it printed something that doesn't end with one
 abbrev pub output_text : List ℕ → List ℕ

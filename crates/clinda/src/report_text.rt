@@ -43,3 +43,195 @@ fn text_at(texts: &[Items<u8>], number: u32) -> &[u8]
         None => &[],
     }
 }
+
+// Puts a value at the end, as it is printed.
+fn add_value(
+    alloc: Global,
+    text: &mut Text,
+    texts: &[Items<u8>],
+    value: Value,
+) -> Result<(), NoMemory>
+    ensures ok { OnOk result (text.new ≡ text.old ++ printed.value_text (table texts.now) value) }
+{
+    match value {
+        Value::Int(number) => text.add_signed(alloc, i64::from(number)),
+        Value::Long(number) => {
+            text.add_signed(alloc, number)?;
+            text.add(b"L")
+        }
+        Value::Char(number) => {
+            text.add_number(alloc, u64::from(number))?;
+            text.add(b"C")
+        }
+        Value::Text(number) => {
+            text.add(b"\"")?;
+            add_escaped(text, text_at(texts, number))?;
+            text.add(b"\"")
+        }
+    }
+}
+
+// Puts values at the end, each behind a comma.
+fn add_more_values(
+    alloc: Global,
+    text: &mut Text,
+    texts: &[Items<u8>],
+    values: &[Value],
+) -> Result<(), NoMemory>
+    ensures ok { OnOk result (text.new ≡ text.old ++ more_values_text (table texts.now) values.now) }
+{
+    for value in values {
+        text.add(b",")?;
+        add_value(alloc, text, texts, *value)?;
+    }
+    Ok(())
+}
+
+// Puts values at the end, joined by commas.
+fn add_values(
+    alloc: Global,
+    text: &mut Text,
+    texts: &[Items<u8>],
+    values: &[Value],
+) -> Result<(), NoMemory>
+    ensures ok { OnOk result (text.new ≡ text.old ++ printed.values_text (table texts.now) values.now) }
+{
+    match values {
+        [] => Ok(()),
+        [first, rest @ ..] => {
+            add_value(alloc, text, texts, *first)?;
+            add_more_values(alloc, text, texts, rest)
+        }
+    }
+}
+
+// Puts a tuple at the end, as it is printed.
+fn add_tuple(
+    alloc: Global,
+    text: &mut Text,
+    texts: &[Items<u8>],
+    tuple: &Tuple,
+) -> Result<(), NoMemory>
+    ensures ok { OnOk result (text.new ≡ text.old ++ tuple_text (table texts.now) tuple.now.items) }
+{
+    text.add(b"(")?;
+    add_values(alloc, text, texts, tuple.fields())?;
+    text.add(b")")
+}
+
+// The name of a trap.
+fn name_of(trap: Trap) -> &'static [u8]
+    ensures { result.now ≡ trap_text trap }
+{
+    match trap {
+        Trap::Overflow => b"Overflow",
+        Trap::DivideByZero => b"DivideByZero",
+        Trap::IndexRange => b"IndexRange",
+        Trap::StepLimit => b"StepLimit",
+        Trap::CallDepth => b"CallDepth",
+        Trap::CellLimit => b"CellLimit",
+        Trap::OutputLimit => b"OutputLimit",
+        Trap::EvalDepth => b"EvalDepth",
+    }
+}
+
+// Puts the end of a process at the end.
+fn add_end(alloc: Global, text: &mut Text, texts: &[Items<u8>], end: &End) -> Result<(), NoMemory>
+    ensures ok { OnOk result (text.new ≡ text.old ++ printed.end_text (table texts.now) (plain_end end.now)) }
+{
+    match end {
+        End::Ended(values) => {
+            text.add(b"ended ")?;
+            add_tuple(alloc, text, texts, values)
+        }
+        End::Trapped(trap) => {
+            text.add(b"trapped ")?;
+            text.add(name_of(*trap))
+        }
+        End::NoThread => text.add(b"refused thread"),
+        End::HistoryFull(set) => {
+            text.add(b"full set ")?;
+            text.add_number(alloc, u64::from(*set))
+        }
+        End::NoMemory => text.add(b"memory"),
+        End::Stopped { by } => {
+            text.add(b"stopped by ")?;
+            text.add_number(alloc, *by)
+        }
+        End::Waiting => text.add(b"waiting"),
+    }
+}
+
+// Puts the line of a process at the end.
+fn add_process_line(
+    alloc: Global,
+    text: &mut Text,
+    texts: &[Items<u8>],
+    report: &Report,
+) -> Result<(), NoMemory>
+    ensures ok { OnOk result (text.new ≡ text.old ++ process_line (table texts.now) (plain_report report.now)) }
+{
+    text.add(b"process ")?;
+    text.add_number(alloc, report.name)?;
+    text.add(b" ")?;
+    add_end(alloc, text, texts, &report.end)?;
+    text.add(b" acts ")?;
+    text.add_number(alloc, report.acts.len() as u64)?;
+    text.add(b"\n")
+}
+
+// Puts what a process printed at the end, with an LF where it doesn't end with one.
+fn add_output(text: &mut Text, output: &[u8]) -> Result<(), NoMemory>
+    ensures ok { OnOk result (text.new ≡ text.old ++ output_text output.now) }
+{
+    text.add(output)?;
+    if last_byte(output) == b'\n' {
+        return Ok(());
+    }
+    text.add(b"\n")
+}
+
+// The last byte, or LF where there is none.
+fn last_byte(bytes: &[u8]) -> u8
+    ensures { result ≡ printed.last_byte bytes.now }
+{
+    match bytes.last() {
+        Some(byte) => *byte,
+        None => b'\n',
+    }
+}
+
+// Puts the line of each process and what it printed at the end.
+fn add_reports(
+    alloc: Global,
+    text: &mut Text,
+    texts: &[Items<u8>],
+    reports: &[Report],
+) -> Result<(), NoMemory>
+    ensures ok { OnOk result (text.new ≡ text.old ++ reports_text (table texts.now) (map plain_report reports.now)) }
+{
+    for report in reports {
+        add_process_line(alloc, text, texts, report)?;
+        add_output(text, report.output.as_slice())?;
+    }
+    Ok(())
+}
+
+// Puts the last line at the end.
+fn add_status_line(
+    alloc: Global,
+    text: &mut Text,
+    status: u8,
+    processes: usize,
+    acts: usize,
+) -> Result<(), NoMemory>
+    ensures ok { OnOk result (text.new ≡ text.old ++ status_line status processes acts) }
+{
+    text.add(b"status ")?;
+    text.add_number(alloc, u64::from(status))?;
+    text.add(b" processes ")?;
+    text.add_number(alloc, processes as u64)?;
+    text.add(b" acts ")?;
+    text.add_number(alloc, acts as u64)?;
+    text.add(b"\n")
+}

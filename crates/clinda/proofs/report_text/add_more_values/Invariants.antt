@@ -1,0 +1,7 @@
+use Rattle.std.proofs.Common.{◌≡◌, ◌++◌, drop}
+use Rattle.cl_value.specs.Text.{more_values_text}
+use Rattle.clinda.specs.Tables.{table}
+use Rattle.clinda.proofs.report_text.add_more_values.Given as goal
+
+abbrev pub invariant-loop-value : goal.invariant-loop-value
+invariant-loop-value l = l.text ++ more_values_text (table l.texts) (drop l.value-index l.values) ≡ l.fn.text ++ more_values_text (table l.texts) l.values
