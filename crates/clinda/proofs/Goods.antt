@@ -1,11 +1,11 @@
 -- The report of a run of a small unit is good.
-use Rattle.std.proofs.Common.{◌≡◌, ◌≢◌, ℕ, zero, suc, ◌+◌, ◌<◌, ◌≤◌, Bool, true, false, cond, List, [], ◌∷◌, ◌++◌, length, Option, Some, None, refl, sym, ap, subst, ◌∙◌, arith, inl, inr, zero-add}
+use Rattle.std.proofs.Common.{◌≡◌, ◌≢◌, ℕ, zero, suc, ◌+◌, ◌<◌, ◌≤◌, Bool, true, false, cond, List, [], ◌∷◌, ◌++◌, length, Option, Some, None, refl, sym, ap, subst, ◌∙◌, arith, inl, inr, zero-add, append-nil, nat_lt}
 use Rattle.std.specs.Prelude.{map, pos, Contains, ◌==◌}
 use Rattle.std.specs.List.{AllByRecursion, range_with_len}
 use Rattle.cl_value.specs.Acts.{acts_of, names_made}
 use Rattle.cl_value.specs.Plain.{PlainStart, Main, PlainReply, Done, Got, Miss, PlainAct, PlainEnd, Ended, Trapped, NoThread, HistoryFull, NoMemory, Stopped, Waiting, PlainReport, PlainHistory, PlainRun}
 use Rattle.cl_value.specs.Replay.{Oldest, first_match}
-use Rattle.cl_value.specs.Tickets.{NumberedFrom, by_ticket}
+use Rattle.cl_value.specs.Tickets.{NumberedFrom, placed, in_order, acts_in, by_ticket}
 use Rattle.cl_value.specs.Matching.{matches}
 use Rattle.std.proofs.lemmas.List.FromFn.{length-range_with_len, get_or-range_with_len}
 use Rattle.cl_value.specs.declared.value.Value.TheVariants as values
@@ -20,7 +20,7 @@ use Rattle.cl_model.proofs.Bags.{none_found}
 use Rattle.cl_model.proofs.Histories.{by_ticket_one}
 use Rattle.cl_model.proofs.Alone.{replies_in, IsOwn, IsAlone, main_after, alone, acts_of_own, names_of_own}
 use Rattle.clinda.specs.Moment.{Moment}
-use Rattle.clinda.specs.Standing.{Stands, StandsAt, WaitsAt, report_of, run_of, status_at}
+use Rattle.clinda.specs.Standing.{one_history, Stands, StandsAt, WaitsAt, report_of, run_of, status_at}
 use Rattle.clinda.proofs.Standing.{counts, outcome_now, demand_now}
 
 -- nothing is printed
@@ -163,3 +163,40 @@ run_is_good unit m (Trapped t) s = absurd s
 run_is_good unit m NoThread s = absurd s
 run_is_good unit m (HistoryFull set) s = absurd s
 run_is_good unit m (Stopped by) s = absurd s
+
+-- a run has at most as many acts as its unit has operations
+few_acts : (unit items : List PlainItem) (m : Moment) → Stands unit items m → length m.acts ≤ operations_in unit
+few_acts unit items m s = omega (arith, s.count, s.sites)
+
+few_standing : (unit : List PlainItem) (m : Moment) (end : PlainEnd) → StandsAt unit m end → length m.acts ≤ operations_in unit
+few_standing unit m (Ended vs) s = few_acts unit [] m s.1
+few_standing unit m Waiting w = few_acts unit (DoIn w.pieces ∷ w.rest) m w.stands
+few_standing unit m NoMemory s = few_acts unit s.0 m s.1
+few_standing unit m (Trapped t) s = absurd s
+few_standing unit m NoThread s = absurd s
+few_standing unit m (HistoryFull set) s = absurd s
+few_standing unit m (Stopped by) s = absurd s
+
+one_history_length : (n : ℕ) (acts : List PlainAct) → length (acts_in (one_history n acts)) ≤ length acts
+one_history_length zero acts = omega arith
+one_history_length (suc n) acts = omega (arith, ap length (append-nil acts))
+
+-- so has its report
+pub few_reported : (unit : List PlainItem) (m : Moment) (end : PlainEnd) (n : ℕ) → StandsAt unit m end → length (acts_in (run_of n m end).histories) ≤ operations_in unit
+few_reported unit m end n s = omega (arith, few_standing unit m end s, one_history_length n m.acts)
+
+length-placed : (act : PlainAct) (acts : List PlainAct) → length (placed act acts) ≡ length acts + 1
+length-placed act [] = refl
+length-placed act (next ∷ acts) = by_test (nat_lt act.ticket next.ticket) (length-placed act acts)
+  where
+    by_test : (b : Bool) → length (placed act acts) ≡ length acts + 1 → length (cond b (act ∷ next ∷ acts) (next ∷ placed act acts)) ≡ length (next ∷ acts) + 1
+    by_test true h = omega arith
+    by_test false h = omega arith
+
+-- the order by ticket has as many acts
+pub length-in_order : (acts : List PlainAct) → length (in_order acts) ≡ length acts
+length-in_order [] = refl
+length-in_order (act ∷ acts) = length-placed act (in_order acts) ∙ omega (arith, length-in_order acts)
+
+pub length_by_ticket : (histories : List PlainHistory) → length (by_ticket histories) ≡ length (acts_in histories)
+length_by_ticket histories = length-in_order (acts_in histories)

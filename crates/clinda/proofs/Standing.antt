@@ -2,6 +2,7 @@
 use Rattle.std.proofs.Common.{◌≡◌, ◌≢◌, ℕ, ◌+◌, ◌<◌, ◌≤◌, Bool, true, false, cond, List, [], ◌∷◌, ◌++◌, length, Option, Some, None, refl, sym, ap, subst, ◌∙◌, arith, append-nil, append_assoc}
 use Rattle.std.specs.Prelude.{map, option_to_list, nat_le, ◌*◌, ◌&&◌}
 use Rattle.std.proofs.lemmas.Bool.{leb-true}
+use Rattle.std.proofs.lemmas.List.{length_push}
 use Rattle.std.specs.List.{AllByRecursion}
 use Rattle.cl_value.specs.Acts.{reply_of, is_eval}
 use Rattle.cl_value.specs.Matching.{matches}
@@ -44,7 +45,7 @@ goes_on {unit} {item_rest} {m} rest s act reply variables site told next replies
 -- a declaration does nothing
 pub declares : (unit rest : List PlainItem) (names : List (List ℕ)) (m : Moment) → Stands unit (Declare names ∷ rest) m → Stands unit rest m
 declares unit rest names m s =
-    record { variables = s.variables; legal = s.legal; oldest = s.oldest; tuples = s.tuples; own = s.own; sites = s.sites; goes = s.goes }
+    record { variables = s.variables; legal = s.legal; oldest = s.oldest; tuples = s.tuples; own = s.own; sites = s.sites; count = s.count; goes = s.goes }
 
 -- an `out` may come
 may_out : {unit rest : List PlainItem} {pieces : List PlainPiece} {m : Moment} → Stands unit (DoOut pieces ∷ rest) m → MayCome (small_demands unit) (after m.acts) (next_act m (DidOut (map (value_of (texts_of unit)) pieces)))
@@ -82,6 +83,7 @@ outs unit rest pieces m s =
       tuples = ap (λ ts. ts ++ t ∷ []) s.tuples ∙ sym (replay_push [] m.acts act);
       own = own_push (operations_in unit) m.acts act s.own (own_act s (DidOut t) refl refl (omega arith));
       sites = omega (arith, s.sites);
+      count = length_push m.acts act ∙ ap (λ n. n + 1) s.count;
       goes = goes_on rest s act Done s.variables (m.site + 1) refl (λ replies. refl);
     }
 
@@ -101,13 +103,14 @@ takes unit rest pieces m new s a = subst (Stands unit rest) (sym a.change) taken
           tuples = ap (λ ts. without_first ts template) s.tuples ∙ sym (replay_push [] m.acts act);
           own = own_push (operations_in unit) m.acts act s.own (own_act s (DidIn template a.tuple) refl refl (omega arith));
           sites = omega (arith, s.sites);
+          count = length_push m.acts act ∙ ap (λ n. n + 1) s.count;
           goes = goes_on rest s act (Got a.tuple) (all_received s.variables pieces a.tuple) (m.site + 1) refl (λ replies. rw met refl);
         }
 
 -- the run stands before all items at first
 pub begins : (unit : List PlainItem) → Stands unit unit beginning
 begins unit =
-    record { variables = zeros; legal = legal_nil (small_demands unit); oldest = tt; tuples = refl; own = tt; sites = omega arith; goes = λ replies. refl }
+    record { variables = zeros; legal = legal_nil (small_demands unit); oldest = tt; tuples = refl; own = tt; sites = omega arith; count = refl; goes = λ replies. refl }
 
 -- what is performed goes on with the items behind it
 pub performs : (unit rest : List PlainItem) (item : PlainItem) (m new : Moment) → Stands unit (item ∷ rest) m → Performed (texts_of unit) m item new → Stands unit rest new

@@ -21,6 +21,7 @@ pub record Stands (unit rest : List PlainItem) (m : Moment) : Type 0 where
   pub tuples : m.tuples ≡ replay m.acts
   pub own : AllByRecursion (IsOwn (operations_in unit)) m.acts
   pub sites : m.site + operations_in rest ≡ operations_in unit
+  pub count : length m.acts ≡ m.site
   pub goes : (replies : List PlainReply) → small_demands unit Main (replies_in m.acts ++ replies) ≡ demand_from (texts_of unit) variables m.site rest replies
 
 -- an operation has 1 to 16 pieces

@@ -1,4 +1,4 @@
-ghost use Rattle.std.specs.Prelude.{◌≡◌, ◌+◌, ◌++◌, OnOk, IfOk, map, length};
+ghost use Rattle.std.specs.Prelude.{◌≡◌, ◌+◌, ◌^◌, ◌<◌, ◌++◌, OnOk, IfOk, map, length};
 ghost use Rattle.cl_value.specs.Room.{Room};
 ghost use Rattle.cl_value.specs.Views.{plain_act, plain_end, plain_report, plain_history, plain_run};
 ghost use Rattle.cl_value.specs.Tickets.{by_ticket, acts_in};
@@ -234,4 +234,29 @@ fn add_status_line(
     text.add(b" acts ")?;
     text.add_number(alloc, acts as u64)?;
     text.add(b"\n")
+}
+
+// The number of acts in all histories.
+fn acts_in_all(histories: &[History]) -> usize
+    requires { length (acts_in (map plain_history histories.now)) < 2 ^ 64 }
+    ensures { result ≡ length (by_ticket (map plain_history histories.now)) }
+{
+    let mut acts = 0;
+    for history in histories {
+        acts += history.acts.len();
+    }
+    acts
+}
+
+/// The text of a run: the line of each process and what it printed, and the line of the status.
+pub fn render(alloc: Global, report: &RunReport, texts: &[Items<u8>]) -> Result<Text, NoMemory>
+    requires { length (acts_in (plain_run report.now).histories) < 2 ^ 64 }
+    ensures { IfOk result (λ text. text ≡ run_text (table texts.now) (plain_run report.now).reports (length (by_ticket (plain_run report.now).histories)) report.now.status) }
+{
+    let mut text = Text::new(alloc);
+    let reports = report.reports.as_slice();
+    add_reports(alloc, &mut text, texts, reports)?;
+    let acts = acts_in_all(report.histories.as_slice());
+    add_status_line(alloc, &mut text, report.status, reports.len(), acts)?;
+    Ok(text)
 }

@@ -18,6 +18,7 @@ pub enum LeftOff {
 ghost use Rattle.std.specs.Prelude.{◌≡◌, ◌+◌, ◌-◌, ◌^◌, ◌<◌, ◌≤◌, List, [], ◌∷◌, true, map, length, IfOk, Ok, OnErr, pos};
 ghost use Rattle.std.specs.List.{AllByRecursion};
 ghost use Rattle.cl_value.specs.Room.{Room};
+ghost use Rattle.cl_value.specs.Tickets.{acts_in};
 ghost use Rattle.cl_value.specs.Views.{plain_act, plain_end, plain_history, plain_run};
 ghost use Rattle.cl_model.specs.Good.{GoodRun, Turns};
 ghost use Rattle.cl_model.specs.Small.{PlainItem, keeps_rules};
@@ -193,6 +194,7 @@ pub fn run_small<L: Ledger>(
     requires rules { keeps_rules [] (plain_unit unit.now) ≡ true }
     requires operations { small.operations_in (plain_unit unit.now) ≤ 1024 }
     ensures good { IfOk result (λ run. GoodRun (small_demands (plain_unit unit.now)) (small_sets (plain_unit unit.now)) Turns (plain_run run)) }
+    ensures few { IfOk result (λ run. length (acts_in (plain_run run).histories) ≤ 1024) }
 {
     let items = unit.items.as_slice();
     let texts = texts_of(alloc, items)?;

@@ -3,7 +3,12 @@ use Rattle.std.specs.Prelude.{map}
 use Rattle.std.specs.List.{AllByRecursion}
 use Rattle.std.proofs.lemmas.Result.{IfOk-weaker}
 use Rattle.cl_value.specs.Room.{Room}
-use Rattle.clinda.specs.Moment.{beginning}
+use Rattle.cl_value.specs.Plain.{PlainRun}
+use Rattle.cl_value.specs.Tickets.{acts_in}
+use Rattle.cl_value.specs.declared.process.RunReport.{RunReport}
+use Rattle.cl_model.specs.declared.small.Item.{Item}
+use Rattle.clinda.specs.declared.running.LeftOff.{LeftOff}
+use Rattle.clinda.specs.Moment.{Moment, beginning}
 use Rattle.cl_value.specs.Views.{plain_run}
 use Rattle.cl_model.specs.Good.{GoodRun, Turns}
 use Rattle.cl_model.specs.Small.{PlainItem, operations_in}
@@ -13,7 +18,7 @@ use Rattle.clinda.specs.Tables.{table}
 use Rattle.clinda.specs.Leaving.{end_of, LeavesAt}
 use Rattle.clinda.specs.Standing.{Stands, IsSound, run_of}
 use Rattle.clinda.proofs.Standing.{keeps_sound, fields_few, begins}
-use Rattle.clinda.proofs.Goods.{run_is_good}
+use Rattle.clinda.proofs.Goods.{run_is_good, few_reported}
 use Rattle.clinda.proofs.running.run_small.Goals as goal
 
 pub perform_all-left-requires-clause-sound : goal.perform_all-left-requires-clause-sound
@@ -28,21 +33,35 @@ perform_all-left-requires-clause-texts g c =
     let bound : length c.in_ok-texts.texts.items < 4294967296 = omega arith in
     subst (λ (xs : List (Room ℕ)). length xs < 4294967296) (sym c.as_slice.ensures) bound
 
+-- where the run left off it stands
+leaves_there : (unit : List PlainItem) (items : List Item) (texts : List (Room ℕ)) (stage begun : Moment) (left : LeftOff)
+    → map plain_item items ≡ unit → table texts ≡ texts_of (map plain_item items) → begun ≡ beginning
+    → ((u : List PlainItem) → table texts ≡ texts_of u → Stands u (map plain_item items) begun → LeavesAt u stage left)
+    → LeavesAt unit stage left
+leaves_there unit items texts stage begun left same table_is at_first leaves =
+    let start : Stands unit (map plain_item items) begun = subst (λ m. Stands unit (map plain_item items) m) (sym at_first) (subst (λ xs. Stands unit xs beginning) (sym same) (begins unit)) in
+    leaves unit (table_is ∙ ap texts_of same) start
+
+bounded : {a b d : ℕ} → a ≤ b → b ≤ d → a ≤ d
+bounded h k = omega arith
+
 pub returns : goal.returns
 returns g c =
     let unit = plain_unit c.args.unit.now in
-    let items = c.as_slice-items.result.now in
-    let same = c.as_slice-items.ensures in
+    let same : map plain_item c.as_slice-items.result.now ≡ unit = ap (map plain_item) c.as_slice-items.ensures in
     let stage = c.perform_all-left.new.stage in
     let left = c.perform_all-left.result in
-    let texts : table c.as_slice.result.now ≡ texts_of unit = ap table c.as_slice.ensures ∙ (c.in_ok-texts.ensures.texts ∙ ap (λ xs. texts_of (map plain_item xs)) same) in
-    let at_first : Stands unit (map plain_item items) beginning = subst (λ xs. Stands unit (map plain_item xs) beginning) (sym same) (begins unit) in
-    let begun : Stands unit (map plain_item items) c.new-stage.result = subst (λ m. Stands unit (map plain_item items) m) (sym c.new-stage.ensures) at_first in
-    let leaves : LeavesAt unit stage left = c.perform_all-left.ensures unit texts begun in
-    let good = run_is_good unit stage (end_of left) leaves in
-    let operations : c.operations_in.result ≡ operations_in unit = c.operations_in.ensures ∙ ap (λ xs. operations_in (map plain_item xs)) same in
+    let leaves : LeavesAt unit stage left =
+    leaves_there unit c.as_slice-items.result.now c.as_slice.result.now stage c.new-stage.result left same
+    (ap table c.as_slice.ensures ∙ c.in_ok-texts.ensures.texts) c.new-stage.ensures c.perform_all-left.ensures
+    in
+    let operations : c.operations_in.result ≡ operations_in unit = c.operations_in.ensures ∙ ap operations_in same in
+    let reported : (run : RunReport) → plain_run run ≡ run_of c.operations_in.result stage (end_of left) → plain_run run ≡ run_of (operations_in unit) stage (end_of left) = λ run h. h ∙ ap (λ n. run_of n stage (end_of left)) operations in
     record {
       good = IfOk-weaker c.report_of.result (λ run. plain_run run ≡ run_of c.operations_in.result stage (end_of left)) (λ run. GoodRun (small_demands unit) (small_sets unit) Turns (plain_run run))
-          (λ run h. subst (λ r. GoodRun (small_demands unit) (small_sets unit) Turns r) (sym (h ∙ ap (λ n. run_of n stage (end_of left)) operations)) good)
+          (λ run h. subst (λ r. GoodRun (small_demands unit) (small_sets unit) Turns r) (sym (reported run h)) (run_is_good unit stage (end_of left) leaves))
+          c.report_of.ensures;
+      few = IfOk-weaker c.report_of.result (λ run. plain_run run ≡ run_of c.operations_in.result stage (end_of left)) (λ run. length (acts_in (plain_run run).histories) ≤ 1024)
+          (λ run h. subst (λ (r : PlainRun). length (acts_in r.histories) ≤ 1024) (sym (reported run h)) (bounded (few_reported unit stage (end_of left) (operations_in unit) leaves) c.requires.operations))
           c.report_of.ensures;
     }
