@@ -1,0 +1,3 @@
+pub mod ReadingTokens
+pub mod ReadingViews
+pub mod Reading

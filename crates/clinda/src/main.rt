@@ -1,0 +1,6 @@
+//! Reads sources.
+#![tactic(auto)]
+
+mod small;
+
+fn main() {}
