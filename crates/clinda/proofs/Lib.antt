@@ -1,3 +1,5 @@
 pub mod Runs
 pub mod Loops
 pub mod Lexer
+pub mod Takes
+pub mod ListReads
