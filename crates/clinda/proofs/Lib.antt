@@ -3,3 +3,4 @@ pub mod Loops
 pub mod Lexer
 pub mod Takes
 pub mod ListReads
+pub mod PieceReads
