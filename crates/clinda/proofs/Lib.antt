@@ -4,3 +4,5 @@ pub mod Lexer
 pub mod Takes
 pub mod ListReads
 pub mod PieceReads
+pub mod ItemReads
+pub mod UnitReads

@@ -1,3 +1,4 @@
 pub mod ReadingTokens
 pub mod ReadingViews
 pub mod Reading
+pub mod ReadingEnds

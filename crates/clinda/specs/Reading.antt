@@ -166,12 +166,17 @@ item_at known operations bytes = do
   start ← chosen_at (item_start operations) bytes
   item_from known start.0 start.1
 
+-- the items where no more come, or what goes on behind one more
+abbrev pub after_item : (PlainItem → Result (List PlainItem × List ℕ) ℕ) → List PlainItem → Option PlainItem → List ℕ → Result (List PlainItem × List ℕ) ℕ
+after_item further before None rest = Ok (before, rest)
+after_item further before (Some x) rest = further x
+
 -- the items after those before, up to `}`, with room for fewer than so many
 unfoldable pub items_at : ℕ → List PlainItem → List ℕ → Result (List PlainItem × List ℕ) ℕ
 items_at zero before bytes = Err (length (skip bytes))
 items_at (suc k) before bytes = do
   item ← item_at (declared_in before) (operations_in before) bytes
-  elim item.0 [ None ↦ Ok (before, item.1) | Some x ↦ items_at k (before ++ x ∷ []) item.1 ]
+  after_item (λ x. items_at k (before ++ x ∷ []) item.1) before item.0 item.1
 
 -- nothing but blanks is left
 abbrev pub end_at : List PlainItem → List ℕ → Result (List PlainItem) ℕ

@@ -1,0 +1,57 @@
+use super::*;
+use std::process::Abort;
+use std::test::*;
+
+// The place where the source is refused, if it is.
+fn place_of(alloc: Global, source: &[u8]) -> Option<usize> {
+    if source.len() > 1048576 {
+        return None;
+    }
+    match read_small(alloc, source) {
+        Err(SmallEnd::NotBuilt { place }) => Some(place),
+        _ => None,
+    }
+}
+
+// The number of items, if the source is read.
+fn items_of(alloc: Global, source: &[u8]) -> Option<usize> {
+    if source.len() > 1048576 {
+        return None;
+    }
+    match read_small(alloc, source) {
+        Ok(found) => Some(found.items.len()),
+        Err(_) => None,
+    }
+}
+
+#[test]
+fn read(rt: HostRuntime) {
+    let source = b"real_main(){int v;out(\"x\",1);in(\"x\",?v);}";
+    assert_eq!(rt; items_of(rt.alloc(), source), Some(3));
+    assert_eq!(rt; items_of(rt.alloc(), b" real_main\t(\r\n) { } \n"), Some(0));
+    assert_eq!(rt; items_of(rt.alloc(), b"real_main(){in(\"x\");}"), Some(1));
+    assert_eq!(rt; items_of(rt.alloc(), b"real_main(){out(2147483647,0);}"), Some(1));
+}
+
+#[test]
+fn refused(rt: HostRuntime) {
+    assert_eq!(rt; place_of(rt.alloc(), b""), Some(0));
+    assert_eq!(rt; place_of(rt.alloc(), b"  "), Some(2));
+    assert_eq!(rt; place_of(rt.alloc(), b"real_main(){switch(1){}}"), Some(12));
+    assert_eq!(rt; place_of(rt.alloc(), b"real_main(){out(\"x\",y);}"), Some(20));
+    assert_eq!(rt; place_of(rt.alloc(), b"real_main(){out(00);}"), Some(17));
+    assert_eq!(rt; place_of(rt.alloc(), b"real_main(){out(2147483648);}"), Some(16));
+    assert_eq!(rt; place_of(rt.alloc(), b"real_main(){in(?v);}"), Some(16));
+    assert_eq!(rt; place_of(rt.alloc(), b"real_main(){int v,v;}"), Some(18));
+    assert_eq!(rt; place_of(rt.alloc(), b"real_main(){int v;out(?v);}"), Some(22));
+    assert_eq!(rt; place_of(rt.alloc(), b"real_main(){} 5"), Some(14));
+    assert_eq!(rt; place_of(rt.alloc(), b"real_main(){out(\"x);}"), Some(16));
+}
+
+#[test]
+fn counts(rt: HostRuntime) {
+    let sixteen = b"real_main(){out(1,2,3,4,5,6,7,8,9,0,1,2,3,4,5,6);}";
+    assert_eq!(rt; items_of(rt.alloc(), sixteen), Some(1));
+    let seventeen = b"real_main(){out(1,2,3,4,5,6,7,8,9,0,1,2,3,4,5,6,7);}";
+    assert_eq!(rt; place_of(rt.alloc(), seventeen), Some(48));
+}
