@@ -1,17 +1,17 @@
 -- What items and a whole unit take, and that they are read again.
-use Rattle.std.proofs.Common.{◌≡◌, ℕ, zero, suc, ◌+◌, ◌-◌, ◌<◌, ◌≤◌, Bool, true, false, cond, eqb, ltb, leb, ◌&&◌, List, [], ◌∷◌, ◌++◌, length, Option, Some, None, Result, Ok, Err, refl, sym, ap, subst, ◌∙◌, append_assoc, arith, ◌⊎◌, inl, inr}
+use Rattle.std.proofs.Common.{◌≡◌, ℕ, zero, suc, ◌+◌, ◌<◌, ◌≤◌, true, false, eqb, ltb, leb, ◌&&◌, List, [], ◌∷◌, ◌++◌, length, Option, Some, None, Result, Ok, Err, refl, sym, ap, subst, ◌∙◌, append_assoc, arith, inl, inr}
 use Rattle.std.specs.Prelude.{codes}
-use Rattle.std.proofs.lemmas.Bool.{and_parts, and_from, leb-true, le-leb, ltb-true, lt-ltb, eqb-true, eq-eqb, cond-true, cond-false}
+use Rattle.std.proofs.lemmas.Bool.{and_parts, and_from, leb-true, le-leb, ltb-true, lt-ltb, eqb-true, eq-eqb, cond-true}
 use Rattle.std.proofs.lemmas.List.{append-nil, length-append, nil_from_length}
-use Rattle.cl_model.specs.Tokens.{Token, Name, IntWord, OutWord, InWord, OpenBracket, CloseBracket, OpenBrace, CloseBrace, Semicolon, same_bytes, Splits}
-use Rattle.cl_model.specs.Small.{PlainPiece, PlainItem, Declare, DoOut, DoIn, names_tokens, pieces_tokens, item_tokens, items_tokens, unit_tokens, are_new, is_some_up_to, all_may_give, all_may_ask, keeps_rules, declared_in, operations_in, Accepted}
+use Rattle.cl_model.specs.Tokens.{Token, Name, IntWord, OutWord, InWord, OpenBracket, CloseBracket, OpenBrace, CloseBrace, same_bytes}
+use Rattle.cl_model.specs.Small.{PlainPiece, PlainItem, Declare, DoOut, DoIn, item_tokens, items_tokens, unit_tokens, are_new, is_some_up_to, all_may_give, all_may_ask, keeps_rules, declared_in, operations_in, Accepted}
 use Rattle.clinda.specs.ReadingTokens.{skip, token_at}
 use Rattle.clinda.specs.Reading.{◌>>=◌, chosen_at, open_bracket, close_bracket, open_brace, main_name, names_at, operation_at, Start, Closes, Declares, Gives_out, Asks, item_start, item_from, item_at, after_item, items_at, end_at, unit_at}
 use Rattle.clinda.proofs.Runs.{same_is}
 use Rattle.clinda.proofs.Lexer.{chosen}
 use Rattle.clinda.proofs.Loops.{declared_last, operations_last}
 use Rattle.clinda.proofs.Takes.{Takes, Takes-join, Takes-split, splits_from, takes_from, done, ok_is, bind_ok, some, some_is, chosen_ok, chosen_again, token_was, open_bracket_ok, close_bracket_ok, open_brace_ok}
-use Rattle.clinda.proofs.PieceReads.{NamesAre, names_sound, names_again, OperationIs, operation_sound, operation_again}
+use Rattle.clinda.proofs.PieceReads.{names_sound, names_again, operation_sound, operation_again}
 
 -- ---- rules of an item before others
 
@@ -210,7 +210,7 @@ behind k before o rest = after_item (λ x. items_at k (before ++ x ∷ []) rest)
 items_step : (k : ℕ) (before : List PlainItem) (bytes : List ℕ) (o : Option PlainItem) (rest : List ℕ) (y : List PlainItem × List ℕ) → ((b : List PlainItem) (r : List ℕ) → items_at k b r ≡ Ok y → ItemsAre b r y) → NextIs (declared_in before) (operations_in before) bytes o rest → behind k before o rest ≡ Ok y → ItemsAre before bytes y
 items_step k before bytes None rest y rec next e =
     let made : ItemsAre before bytes (before, rest) =
-      record { fresh = []; items = sym (append-nil before); takes = (rest, next, refl); rules = refl; count = λ h. omega arith; names = λ h. omega arith } in
+    record { fresh = []; items = sym (append-nil before); takes = (rest, next, refl); rules = refl; count = λ h. omega arith; names = λ h. omega arith } in
     subst (ItemsAre before bytes) (ok_is (before, rest) y e) made
 items_step k before bytes (Some x) rest y rec next e =
     let others = rec (before ++ x ∷ []) rest e in
@@ -250,8 +250,8 @@ items_again (suc k) before bytes (x ∷ items) rest takes rules count names few 
     let n2 = ap length (declared_cons x items) ∙ length-append (declared_in (x ∷ [])) (declared_in items) in
     let read = item_again (declared_in before) (operations_in before) bytes x s.0 s.1 parts.0 (omega (arith, count, o2)) (omega (arith, names, n2)) in
     let others =
-      items_again k (before ++ x ∷ []) s.0 items rest s.2 (ap (λ (ns : List (List ℕ)). keeps_rules ns items) (declared_last before x) ∙ parts.1)
-      (omega (arith, count, o1, o2)) (omega (arith, names, n1, n2)) (omega (arith, few)) in
+    items_again k (before ++ x ∷ []) s.0 items rest s.2 (ap (λ (ns : List (List ℕ)). keeps_rules ns items) (declared_last before x) ∙ parts.1)
+    (omega (arith, count, o1, o2)) (omega (arith, names, n1, n2)) (omega (arith, few)) in
     ap (λ r. r >>= λ item. behind k before item.0 item.1) read ∙ others ∙ ap (λ (is : List PlainItem). done (is, rest)) (append_assoc before (x ∷ []) items)
 
 -- ---- a unit
@@ -277,10 +277,12 @@ unit_sound source items size e =
     let all = items_sound 2049 [] d.0.1 f.0 f.1 in
     elim (chosen (eqb (length (skip f.0.1)) 0) (Ok f.0.0) (Err (length (skip f.0.1))) (Ok items) f.2) [
       | inl ended ↦
-        (let takes : Takes source (unit_tokens all.fresh) f.0.1 =
-          (a.0.1, token_was source a.0.1 t.0 (Name (codes "real_main")) t.1 (main_is t.0 a.0.0 t.2),
-            (b.0.1, open_bracket_ok a.0.1 b.0 b.1, (c.0.1, close_bracket_ok b.0.1 c.0 c.1, (d.0.1, open_brace_ok c.0.1 d.0 d.1, all.takes)))) in
-        let made : Accepted source all.fresh =
+          (let takes : Takes source (unit_tokens all.fresh) f.0.1 = (
+            a.0.1,
+            token_was source a.0.1 t.0 (Name (codes "real_main")) t.1 (main_is t.0 a.0.0 t.2),
+            (b.0.1, open_bracket_ok a.0.1 b.0 b.1, (c.0.1, close_bracket_ok b.0.1 c.0 c.1, (d.0.1, open_brace_ok c.0.1 d.0 d.1, all.takes))),
+          ) in
+          let made : Accepted source all.fresh =
           record {
             size = size;
             tokens = splits_from (unit_tokens all.fresh) source f.0.1 takes (nil_from_length (skip f.0.1) (eqb-true (length (skip f.0.1)) 0 ended.0));
@@ -288,7 +290,7 @@ unit_sound source items size e =
             operations = omega (arith, all.count (omega arith));
             names = omega (arith, all.names (omega arith));
           } in
-        subst (Accepted source) (sym all.items ∙ ok_is f.0.0 items ended.1) made)
+          subst (Accepted source) (sym all.items ∙ ok_is f.0.0 items ended.1) made)
       | inr more ↦ absurd cc
     ]
 

@@ -1,9 +1,9 @@
 -- The token that is read is the first one, and the first one is read.
-use Rattle.std.proofs.Common.{◌≡◌, ℕ, zero, suc, ◌+◌, ◌-◌, ◌*◌, ◌^◌, ◌<◌, ◌≤◌, ◌≢◌, Bool, true, false, cond, eqb, leb, not, ◌&&◌, ◌||◌, List, [], ◌∷◌, ◌++◌, length, get_or, take, drop, Option, Some, None, refl, sym, ap, subst, ◌∙◌, append_assoc, arith, rules, add-one, ◌⊎◌, inl, inr}
+use Rattle.std.proofs.Common.{◌≡◌, ℕ, zero, suc, ◌^◌, ◌<◌, ◌≤◌, Bool, true, false, cond, eqb, leb, not, ◌||◌, List, [], ◌∷◌, ◌++◌, length, get_or, Option, Some, None, refl, sym, ap, subst, ◌∙◌, append_assoc, arith, rules, add-one, ◌⊎◌, inl, inr}
 use Rattle.std.specs.Prelude.{codes, option_map}
 use Rattle.std.specs.List.{list_all, list_any}
 use Rattle.std.specs.Fmt.{decimal}
-use Rattle.std.proofs.lemmas.Bool.{eqb-true, eqb-false, eq-eqb, ne_eqb, leb-true, le-leb, and_parts, and_from, or_cases, or_from, or_left, or_right, not-true, not_from_false, cases_Bool, cond-true, cond-false}
+use Rattle.std.proofs.lemmas.Bool.{eqb-true, eqb-false, ne_eqb, leb-true, le-leb, and_parts, and_from, or_cases, or_from, or_left, not-true, not_from_false, cases_Bool, cond-true, cond-false}
 use Rattle.std.proofs.lemmas.List.{append-nil, take-append-drop}
 use Rattle.std.proofs.lemmas.Str.Parse.{IsNumeralModel, numerals_by_fold}
 use Rattle.std.proofs.lemmas.Fmt.{digits_decimal, digits_value-decimal, first_decimal, decimal_nonempty, decimal-digits_value, decimal_digit}
@@ -65,10 +65,10 @@ letter_bound byte e =
     elim (or_cases (is_between 65 90 byte) (is_between 97 122 byte || eqb byte 95) e) [
       | inl a ↦ (within 65 90 byte a).0
       | inr r ↦
-        elim (or_cases (is_between 97 122 byte) (eqb byte 95) r) [
-          | inl b ↦ omega (arith, within 97 122 byte b)
-          | inr u ↦ omega (arith, eqb-true byte 95 u)
-        ]
+          elim (or_cases (is_between 97 122 byte) (eqb byte 95) r) [
+            | inl b ↦ omega (arith, within 97 122 byte b)
+            | inr u ↦ omega (arith, eqb-true byte 95 u)
+          ]
     ]
 
 not_blank : (byte : ℕ) → 33 ≤ byte → is_blank byte ≡ false
@@ -104,9 +104,9 @@ word_again c cs rest token letter all ends word =
     let front = front_whole is_name_byte (c ∷ cs) rest all ends in
     let after = after_whole is_name_byte (c ∷ cs) rest all ends in
     let e : word_at ((c ∷ cs) ++ rest) ≡ Some (token, rest) =
-      ap (λ (f : List ℕ). beside (word_of f) (after_run is_name_byte ((c ∷ cs) ++ rest))) front
-      ∙ ap (λ (a : List ℕ). beside (word_of (c ∷ cs)) a) after
-      ∙ ap (λ (o : Option Token). beside o rest) word in
+    ap (λ (f : List ℕ). beside (word_of f) (after_run is_name_byte ((c ∷ cs) ++ rest))) front
+    ∙ ap (λ (a : List ℕ). beside (word_of (c ∷ cs)) a) after
+    ∙ ap (λ (o : Option Token). beside o rest) word in
     at_word c (cs ++ rest) letter ∙ e
 
 own : IsNumeralModel (λ ds. list_all is_digit ds ≡ true) (read_on 0)
@@ -122,9 +122,9 @@ number_again d ds rest digit first all ends small =
     let after = after_whole is_digit (d ∷ ds) rest all ends in
     let value : literal_of (d ∷ ds) ≡ Some (read_on 0 (d ∷ ds)) = rw (le-leb (read_on 0 (d ∷ ds)) 2147483647 small) refl in
     let e : number_at ((d ∷ ds) ++ rest) ≡ Some (Number (read_on 0 (d ∷ ds)), rest) =
-      ap (λ (f : List ℕ). beside (option_map (λ v. Number v) (literal_of f)) (after_run is_digit ((d ∷ ds) ++ rest))) front
-      ∙ ap (λ (a : List ℕ). beside (option_map (λ v. Number v) (literal_of (d ∷ ds))) a) after
-      ∙ ap (λ (o : Option ℕ). beside (option_map (λ v. Number v) o) rest) value in
+    ap (λ (f : List ℕ). beside (option_map (λ v. Number v) (literal_of f)) (after_run is_digit ((d ∷ ds) ++ rest))) front
+    ∙ ap (λ (a : List ℕ). beside (option_map (λ v. Number v) (literal_of (d ∷ ds))) a) after
+    ∙ ap (λ (o : Option ℕ). beside (option_map (λ v. Number v) o) rest) value in
     at_number d (ds ++ rest) letter other digit ∙ e
 
 string_again : (bytes rest : List ℕ) → list_all is_string_byte bytes ≡ true → token_at ((34 ∷ bytes ++ 34 ∷ []) ++ rest) ≡ Some (Str bytes, rest)
@@ -242,18 +242,18 @@ unfolding word_of keyword_of
 word_sound w rest t word ends e =
     elim (chosen (list_any (same_bytes w) reserved) (keyword_of w) (Some (Name w)) (Some t) e) [
       | inl taken ↦
-        elim (chosen (same_bytes w (codes "int")) (Some IntWord) _ (Some t) taken.1) [
-          | inl a ↦ subst (IsWordOf w rest) (some_is IntWord t a.1) (record { whole = same_is w (codes "int") a.0; form = tt; longest = ends })
-          | inr r ↦
-            elim (chosen (same_bytes w (codes "out")) (Some OutWord) _ (Some t) r.1) [
-              | inl a ↦ subst (IsWordOf w rest) (some_is OutWord t a.1) (record { whole = same_is w (codes "out") a.0; form = tt; longest = ends })
-              | inr q ↦
-                elim (chosen (same_bytes w (codes "in")) (Some InWord) None (Some t) q.1) [
-                  | inl a ↦ subst (IsWordOf w rest) (some_is InWord t a.1) (record { whole = same_is w (codes "in") a.0; form = tt; longest = ends })
-                  | inr z ↦ absurd (none_is_not t z.1)
+          elim (chosen (same_bytes w (codes "int")) (Some IntWord) _ (Some t) taken.1) [
+            | inl a ↦ subst (IsWordOf w rest) (some_is IntWord t a.1) (record { whole = same_is w (codes "int") a.0; form = tt; longest = ends })
+            | inr r ↦
+                elim (chosen (same_bytes w (codes "out")) (Some OutWord) _ (Some t) r.1) [
+                  | inl a ↦ subst (IsWordOf w rest) (some_is OutWord t a.1) (record { whole = same_is w (codes "out") a.0; form = tt; longest = ends })
+                  | inr q ↦
+                      elim (chosen (same_bytes w (codes "in")) (Some InWord) None (Some t) q.1) [
+                        | inl a ↦ subst (IsWordOf w rest) (some_is InWord t a.1) (record { whole = same_is w (codes "in") a.0; form = tt; longest = ends })
+                        | inr z ↦ absurd (none_is_not t z.1)
+                      ]
                 ]
-            ]
-        ]
+          ]
       | inr named ↦ subst (IsWordOf w rest) (some_is (Name w) t named.1) (record { whole = refl; form = and_from (is_word w) (not (list_any (same_bytes w) reserved)) word (not_from_false (list_any (same_bytes w) reserved) named.0); longest = ends })
     ]
 
@@ -287,19 +287,19 @@ number_reads d bytes x digit other e =
     let split : ds ++ after_run is_digit (d ∷ bytes) ≡ d ∷ bytes = take-append-drop (run is_digit (d ∷ bytes)) (d ∷ bytes) in
     elim (chosen (leb (read_on 0 ds) 2147483647) (Some (read_on 0 ds)) None (Some v.0) v.1) [
       | inl small ↦
-        (let value : read_on 0 ds ≡ v.0 = some_is (read_on 0 ds) v.0 small.1 in
-        let bound : read_on 0 ds ≤ 2147483647 = leb-true (read_on 0 ds) 2147483647 small.0 in
-        let long : 0 < length ds = omega (arith, ap length front) in
-        let head : get_or ds 0 0 ≡ d = ap (λ (y : List ℕ). get_or y 0 0) front in
-        let text : decimal (read_on 0 ds) ≡ ds = decimal-digits_value own ds all long (λ z. absurd (eqb-false d 48 other (sym head ∙ z))) (omega arith) in
-        let spelled : ds ≡ spelling (Number v.0) = sym text ∙ ap decimal value in
-        let made : Spelled (d ∷ bytes) (Number v.0, x.1) =
+          (let value : read_on 0 ds ≡ v.0 = some_is (read_on 0 ds) v.0 small.1 in
+          let bound : read_on 0 ds ≤ 2147483647 = leb-true (read_on 0 ds) 2147483647 small.0 in
+          let long : 0 < length ds = omega (arith, ap length front) in
+          let head : get_or ds 0 0 ≡ d = ap (λ (y : List ℕ). get_or y 0 0) front in
+          let text : decimal (read_on 0 ds) ≡ ds = decimal-digits_value own ds all long (λ z. absurd (eqb-false d 48 other (sym head ∙ z))) (omega arith) in
+          let spelled : ds ≡ spelling (Number v.0) = sym text ∙ ap decimal value in
+          let made : Spelled (d ∷ bytes) (Number v.0, x.1) =
           record {
             whole = sym split ∙ ap (λ (f : List ℕ). f ++ after_run is_digit (d ∷ bytes)) spelled ∙ ap (λ (a : List ℕ). decimal v.0 ++ a) parts.1;
             form = omega (arith, value, bound);
             longest = zero_or (eqb v.0 0) (begins_with is_digit x.1) ends;
           } in
-        subst (λ (t : Token). Spelled (d ∷ bytes) (t, x.1)) v.2 made)
+          subst (λ (t : Token). Spelled (d ∷ bytes) (t, x.1)) v.2 made)
       | inr great ↦ absurd (none_is_not v.0 great.1)
     ]
 
@@ -308,10 +308,10 @@ string_reads bytes text [] x all split e = absurd (none_is_not x e)
 string_reads bytes text (byte ∷ rest) x all split e =
     elim (chosen (eqb byte 34) (Some (Str text, rest)) None (Some x) e) [
       | inl quote ↦
-        (let q : byte ≡ 34 = eqb-true byte 34 quote.0 in
-        let whole : 34 ∷ bytes ≡ (34 ∷ text ++ 34 ∷ []) ++ rest = ap (λ (y : List ℕ). 34 ∷ y) (sym split ∙ ap (λ (b : ℕ). text ++ b ∷ rest) q ∙ sym (append_assoc text (34 ∷ []) rest)) in
-        let made : Spelled (34 ∷ bytes) (Str text, rest) = record { whole = whole; form = all; longest = tt } in
-        subst (Spelled (34 ∷ bytes)) (some_is (Str text, rest) x quote.1) made)
+          (let q : byte ≡ 34 = eqb-true byte 34 quote.0 in
+          let whole : 34 ∷ bytes ≡ (34 ∷ text ++ 34 ∷ []) ++ rest = ap (λ (y : List ℕ). 34 ∷ y) (sym split ∙ ap (λ (b : ℕ). text ++ b ∷ rest) q ∙ sym (append_assoc text (34 ∷ []) rest)) in
+          let made : Spelled (34 ∷ bytes) (Str text, rest) = record { whole = whole; form = all; longest = tt } in
+          subst (Spelled (34 ∷ bytes)) (some_is (Str text, rest) x quote.1) made)
       | inr other ↦ absurd (none_is_not x other.1)
     ]
 
@@ -333,30 +333,30 @@ mark_sound byte t e =
     elim (chosen (eqb byte 40) (Some OpenBracket) _ (Some t) e) [
       | inl a ↦ mark_one byte 40 OpenBracket t a.0 refl tt (λ _. tt) a.1
       | inr r1 ↦
-        elim (chosen (eqb byte 41) (Some CloseBracket) _ (Some t) r1.1) [
-          | inl a ↦ mark_one byte 41 CloseBracket t a.0 refl tt (λ _. tt) a.1
-          | inr r2 ↦
-            elim (chosen (eqb byte 123) (Some OpenBrace) _ (Some t) r2.1) [
-              | inl a ↦ mark_one byte 123 OpenBrace t a.0 refl tt (λ _. tt) a.1
-              | inr r3 ↦
-                elim (chosen (eqb byte 125) (Some CloseBrace) _ (Some t) r3.1) [
-                  | inl a ↦ mark_one byte 125 CloseBrace t a.0 refl tt (λ _. tt) a.1
-                  | inr r4 ↦
-                    elim (chosen (eqb byte 44) (Some Comma) _ (Some t) r4.1) [
-                      | inl a ↦ mark_one byte 44 Comma t a.0 refl tt (λ _. tt) a.1
-                      | inr r5 ↦
-                        elim (chosen (eqb byte 59) (Some Semicolon) _ (Some t) r5.1) [
-                          | inl a ↦ mark_one byte 59 Semicolon t a.0 refl tt (λ _. tt) a.1
-                          | inr r6 ↦
-                            elim (chosen (eqb byte 63) (Some Question) None (Some t) r6.1) [
-                              | inl a ↦ mark_one byte 63 Question t a.0 refl tt (λ _. tt) a.1
-                              | inr none ↦ absurd (none_is_not t none.1)
+          elim (chosen (eqb byte 41) (Some CloseBracket) _ (Some t) r1.1) [
+            | inl a ↦ mark_one byte 41 CloseBracket t a.0 refl tt (λ _. tt) a.1
+            | inr r2 ↦
+                elim (chosen (eqb byte 123) (Some OpenBrace) _ (Some t) r2.1) [
+                  | inl a ↦ mark_one byte 123 OpenBrace t a.0 refl tt (λ _. tt) a.1
+                  | inr r3 ↦
+                      elim (chosen (eqb byte 125) (Some CloseBrace) _ (Some t) r3.1) [
+                        | inl a ↦ mark_one byte 125 CloseBrace t a.0 refl tt (λ _. tt) a.1
+                        | inr r4 ↦
+                            elim (chosen (eqb byte 44) (Some Comma) _ (Some t) r4.1) [
+                              | inl a ↦ mark_one byte 44 Comma t a.0 refl tt (λ _. tt) a.1
+                              | inr r5 ↦
+                                  elim (chosen (eqb byte 59) (Some Semicolon) _ (Some t) r5.1) [
+                                    | inl a ↦ mark_one byte 59 Semicolon t a.0 refl tt (λ _. tt) a.1
+                                    | inr r6 ↦
+                                        elim (chosen (eqb byte 63) (Some Question) None (Some t) r6.1) [
+                                          | inl a ↦ mark_one byte 63 Question t a.0 refl tt (λ _. tt) a.1
+                                          | inr none ↦ absurd (none_is_not t none.1)
+                                        ]
+                                  ]
                             ]
-                        ]
-                    ]
+                      ]
                 ]
-            ]
-        ]
+          ]
     ]
 
 mark_reads : (byte : ℕ) (bytes : List ℕ) (x : Token × List ℕ) → beside (mark_of byte) bytes ≡ Some x → Spelled (byte ∷ bytes) x
@@ -379,20 +379,20 @@ token_reads (byte ∷ bytes) x e =
     elim (chosen (is_letter byte) (word_at (byte ∷ bytes)) _ (Some x) e) [
       | inl letter ↦ word_reads byte bytes x letter.0 letter.1
       | inr r1 ↦
-        elim (chosen (eqb byte 48) (Some (Number 0, bytes)) _ (Some x) r1.1) [
-          | inl zeroed ↦ zero_reads byte bytes x zeroed.0 zeroed.1
-          | inr r2 ↦
-            elim (chosen (is_digit byte) (number_at (byte ∷ bytes)) _ (Some x) r2.1) [
-              | inl digit ↦ number_reads byte bytes x digit.0 r2.0 digit.1
-              | inr r3 ↦
-                elim (chosen (eqb byte 34) (closed_string (front_run is_string_byte bytes) (after_run is_string_byte bytes)) _ (Some x) r3.1) [
-                  | inl quote ↦
-                    subst (λ (b : ℕ). Spelled (b ∷ bytes) x) (sym (eqb-true byte 34 quote.0))
-                    (string_reads bytes (front_run is_string_byte bytes) (after_run is_string_byte bytes) x (front_all is_string_byte bytes) (take-append-drop (run is_string_byte bytes) bytes) quote.1)
-                  | inr r4 ↦ mark_reads byte bytes x r4.1
+          elim (chosen (eqb byte 48) (Some (Number 0, bytes)) _ (Some x) r1.1) [
+            | inl zeroed ↦ zero_reads byte bytes x zeroed.0 zeroed.1
+            | inr r2 ↦
+                elim (chosen (is_digit byte) (number_at (byte ∷ bytes)) _ (Some x) r2.1) [
+                  | inl digit ↦ number_reads byte bytes x digit.0 r2.0 digit.1
+                  | inr r3 ↦
+                      elim (chosen (eqb byte 34) (closed_string (front_run is_string_byte bytes) (after_run is_string_byte bytes)) _ (Some x) r3.1) [
+                        | inl quote ↦
+                            subst (λ (b : ℕ). Spelled (b ∷ bytes) x) (sym (eqb-true byte 34 quote.0))
+                            (string_reads bytes (front_run is_string_byte bytes) (after_run is_string_byte bytes) x (front_all is_string_byte bytes) (take-append-drop (run is_string_byte bytes) bytes) quote.1)
+                        | inr r4 ↦ mark_reads byte bytes x r4.1
+                      ]
                 ]
-            ]
-        ]
+          ]
     ]
 
 pub read_is_first : (source : List ℕ) (token : Token) (rest : List ℕ) → token_at (skip source) ≡ Some (token, rest) → IsFirst source token rest

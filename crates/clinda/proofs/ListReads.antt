@@ -1,13 +1,12 @@
 -- What a list that is read takes, and that it is read again.
-use Rattle.std.proofs.Common.{◌≡◌, ℕ, zero, suc, ◌+◌, ◌<◌, ◌≤◌, Bool, true, false, cond, not, ◌&&◌, List, [], ◌∷◌, ◌++◌, length, Option, Some, None, Result, Ok, Err, refl, sym, ap, subst, ◌∙◌, append_assoc, arith, ◌⊎◌, inl, inr}
+use Rattle.std.proofs.Common.{◌≡◌, ℕ, zero, suc, ◌≤◌, Bool, true, false, cond, ◌&&◌, List, [], ◌∷◌, ◌++◌, length, Option, Some, Ok, refl, ap, subst, ◌∙◌, append_assoc, arith, inl, inr}
 use Rattle.std.proofs.lemmas.Bool.{and_parts, and_from}
-use Rattle.std.proofs.lemmas.List.{append-nil}
 use Rattle.cl_model.specs.Tokens.{Token, Comma}
 use Rattle.clinda.specs.ReadingTokens.{skip, token_at}
 use Rattle.clinda.specs.Reading.{◌>>=◌, chosen_at, list_at}
 use Rattle.clinda.proofs.Lexer.{chosen}
 use Rattle.clinda.proofs.Loops.{One}
-use Rattle.clinda.proofs.Takes.{Takes, Takes-join, Takes-split, done, ok_is, bind_ok, some, chosen_ok, chosen_again, token_was}
+use Rattle.clinda.proofs.Takes.{Takes, Takes-join, Takes-split, done, ok_is, bind_ok, chosen_ok, chosen_again, token_was}
 
 -- a member that is read takes its tokens and keeps its rule, and such a member is read
 pub record Reads (A : Type 0) (one : One A) (tokens : A → List Token) (rule : List A → A → Bool) : Type 0 where
@@ -51,9 +50,9 @@ list_sound {A} one tokens rule more last reads joins (suc k) before bytes y e =
     let first = reads.sound before bytes a.0 a.1 in
     elim (chosen b.0.0 (list_at one more k (before ++ x ∷ []) b.0.1) (Ok (before ++ x ∷ [], b.0.1)) (Ok y) b.2) [
       | inl further ↦
-        (let others = list_sound one tokens rule more last reads joins k (before ++ x ∷ []) b.0.1 y further.1 in
-        let comma : token_at (skip a.0.1) ≡ Some (Comma, b.0.1) = token_was a.0.1 b.0.1 t.0 Comma t.1 (joins.sound t.0 b.0.0 t.2 ∙ ap (λ c. cond c Comma last) further.0) in
-        let list : ListIs A tokens rule last (suc k) before bytes y =
+          (let others = list_sound one tokens rule more last reads joins k (before ++ x ∷ []) b.0.1 y further.1 in
+          let comma : token_at (skip a.0.1) ≡ Some (Comma, b.0.1) = token_was a.0.1 b.0.1 t.0 Comma t.1 (joins.sound t.0 b.0.0 t.2 ∙ ap (λ c. cond c Comma last) further.0) in
+          let list : ListIs A tokens rule last (suc k) before bytes y =
           record {
             head = x;
             tail = others.head ∷ others.tail;
@@ -62,10 +61,10 @@ list_sound {A} one tokens rule more last reads joins (suc k) before bytes y e =
             rules = and_from (rule before x) (keep rule (before ++ x ∷ []) (others.head ∷ others.tail)) first.1 others.rules;
             few = omega (arith, others.few);
           } in
-        list)
+          list)
       | inr ended ↦
-        (let closes : token_at (skip a.0.1) ≡ Some (last, b.0.1) = token_was a.0.1 b.0.1 t.0 last t.1 (joins.sound t.0 b.0.0 t.2 ∙ ap (λ c. cond c Comma last) ended.0) in
-        let list : ListIs A tokens rule last (suc k) before bytes (before ++ x ∷ [], b.0.1) =
+          (let closes : token_at (skip a.0.1) ≡ Some (last, b.0.1) = token_was a.0.1 b.0.1 t.0 last t.1 (joins.sound t.0 b.0.0 t.2 ∙ ap (λ c. cond c Comma last) ended.0) in
+          let list : ListIs A tokens rule last (suc k) before bytes (before ++ x ∷ [], b.0.1) =
           record {
             head = x;
             tail = [];
@@ -74,7 +73,7 @@ list_sound {A} one tokens rule more last reads joins (suc k) before bytes y e =
             rules = and_from (rule before x) true first.1 refl;
             few = omega arith;
           } in
-        subst (ListIs A tokens rule last (suc k) before bytes) (ok_is (before ++ x ∷ [], b.0.1) y ended.1) list)
+          subst (ListIs A tokens rule last (suc k) before bytes) (ok_is (before ++ x ∷ [], b.0.1) y ended.1) list)
     ]
 
 pub list_complete : {A : Type 0} (one : One A) (tokens : A → List Token) (rule : List A → A → Bool) (more : Token → Option Bool) (last : Token) → Reads A one tokens rule → Joins more last

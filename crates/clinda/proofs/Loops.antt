@@ -1,11 +1,11 @@
 -- The steps of a loop that reads the members of a list.
-use Rattle.std.proofs.Common.{◌≡◌, ℕ, zero, suc, ◌+◌, ◌-◌, ◌<◌, ◌≤◌, Bool, true, false, List, [], ◌∷◌, ◌++◌, length, Option, Some, None, Result, Ok, Err, refl, sym, ap, subst, ◌∙◌, append_assoc, arith}
+use Rattle.std.proofs.Common.{◌≡◌, ℕ, zero, suc, ◌+◌, ◌-◌, ◌<◌, ◌≤◌, Bool, true, false, List, [], ◌∷◌, ◌++◌, length, Option, Some, None, Result, Ok, Err, refl, sym, ap, ◌∙◌, append_assoc, arith}
 use Rattle.cl_model.specs.Tokens.{Token}
 use Rattle.cl_model.specs.Small.{PlainItem, Declare, DoOut, DoIn, declared_in, operations_in}
 use Rattle.clinda.specs.declared.small.stop.Stop.{Stop}
 use Rattle.clinda.specs.declared.small.stop.Stop.TheVariants as stops
 use Rattle.clinda.specs.ReadingTokens.{skip}
-use Rattle.clinda.specs.Reading.{◌>>=◌, Fails, chosen_at, list_at, item_at, items_at}
+use Rattle.clinda.specs.Reading.{Fails, chosen_at, list_at, item_at, items_at}
 
 -- how a member is read, after those before it
 abbrev pub One : Type 0 → Type 0

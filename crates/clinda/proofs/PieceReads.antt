@@ -1,14 +1,14 @@
 -- What names and pieces take, and that they are read again.
-use Rattle.std.proofs.Common.{◌≡◌, ℕ, zero, suc, ◌+◌, ◌-◌, ◌<◌, ◌≤◌, Bool, true, false, cond, not, leb, ◌&&◌, List, [], ◌∷◌, ◌++◌, length, Option, Some, None, Result, Ok, Err, refl, sym, ap, subst, ◌∙◌, append_assoc, arith, ◌⊎◌, inl, inr}
+use Rattle.std.proofs.Common.{◌≡◌, ℕ, ◌-◌, ◌≤◌, Bool, true, false, cond, not, leb, ◌&&◌, List, [], ◌∷◌, ◌++◌, length, Option, Some, None, Ok, refl, sym, ap, subst, ◌∙◌, append_assoc, arith, inl, inr}
 use Rattle.std.proofs.lemmas.Bool.{and_parts, and_from, not-true, not_from_false, leb-true, le-leb, cond-true, cond-false}
 use Rattle.std.proofs.lemmas.List.{append-nil}
 use Rattle.cl_model.specs.Tokens.{Token, Name, Number, Str, OpenBracket, CloseBracket, Comma, Semicolon, Question}
 use Rattle.cl_model.specs.Small.{PlainPiece, Text, Literal, Formal, piece_tokens, more_pieces_tokens, pieces_tokens, more_names_tokens, names_tokens, is_known, are_new, may_ask, may_give, all_may_ask, all_may_give, is_some_up_to}
 use Rattle.clinda.specs.ReadingTokens.{skip, token_at}
-use Rattle.clinda.specs.Reading.{◌>>=◌, chosen_at, open_bracket, semicolon, goes_on, names_go_on, new_name, known_name, piece_start, formal_at, piece_from, piece_at, list_at, name_at, names_at, pieces_at, operation_at}
+use Rattle.clinda.specs.Reading.{◌>>=◌, chosen_at, open_bracket, semicolon, goes_on, names_go_on, new_name, known_name, piece_start, formal_at, piece_from, piece_at, name_at, names_at, pieces_at, operation_at}
 use Rattle.clinda.proofs.Lexer.{chosen}
 use Rattle.clinda.proofs.Takes.{Takes, Takes-join, Takes-split, done, ok_is, bind_ok, some, some_is, chosen_ok, chosen_again, token_was, open_bracket_ok, semicolon_ok}
-use Rattle.clinda.proofs.ListReads.{Reads, Joins, more_tokens, keep, ListIs, list_sound, list_complete}
+use Rattle.clinda.proofs.ListReads.{Reads, Joins, more_tokens, keep, list_sound, list_complete}
 
 -- ---- names
 
@@ -49,12 +49,12 @@ names_read : (known : List (List ℕ)) → Reads (List ℕ) (name_at known) name
 names_read known =
     record {
       sound = λ before bytes y e.
-        (let t = chosen_ok (new_name (known ++ before)) bytes y e in
-        let n = new_name_is (known ++ before) t.0 y.0 t.2 in
-        ((y.1, token_was bytes y.1 t.0 (Name y.0) t.1 n.token, refl), n.fresh));
+          (let t = chosen_ok (new_name (known ++ before)) bytes y e in
+          let n = new_name_is (known ++ before) t.0 y.0 t.2 in
+          ((y.1, token_was bytes y.1 t.0 (Name y.0) t.1 n.token, refl), n.fresh));
       complete = λ before bytes name rest takes fresh.
-        (let accepted : new_name (known ++ before) (Name name) ≡ Some name = cond-false (is_known (known ++ before) name) None (Some name) (not-true (is_known (known ++ before) name) fresh) in
-        chosen_again (new_name (known ++ before)) bytes (Name name) takes.0 name takes.1 accepted ∙ ap (λ (r : List ℕ). done (name, r)) takes.2);
+          (let accepted : new_name (known ++ before) (Name name) ≡ Some name = cond-false (is_known (known ++ before) name) None (Some name) (not-true (is_known (known ++ before) name) fresh) in
+          chosen_again (new_name (known ++ before)) bytes (Name name) takes.0 name takes.1 accepted ∙ ap (λ (r : List ℕ). done (name, r)) takes.2);
     }
 
 more_names_are : (names : List (List ℕ)) → more_names_tokens names ++ Semicolon ∷ [] ≡ more_tokens name_tokens Semicolon names
@@ -81,12 +81,12 @@ pub names_sound : (known : List (List ℕ)) (bytes : List ℕ) (y : List (List �
 names_sound known bytes y e =
     let list = list_sound (name_at known) name_tokens (is_new known) names_go_on Semicolon (names_read known) names_join (1024 - length known) [] bytes y e in
     let made : NamesAre known bytes (list.head ∷ list.tail, y.1) =
-      record {
-        takes = subst (λ (ts : List Token). Takes bytes (Name list.head ∷ ts) y.1) (sym (more_names_are list.tail)) list.takes;
-        some = omega arith;
-        fresh = new_all known (list.head ∷ list.tail) ∙ list.rules;
-        few = list.few;
-      } in
+    record {
+      takes = subst (λ (ts : List Token). Takes bytes (Name list.head ∷ ts) y.1) (sym (more_names_are list.tail)) list.takes;
+      some = omega arith;
+      fresh = new_all known (list.head ∷ list.tail) ∙ list.rules;
+      few = list.few;
+    } in
     subst (λ (ns : List (List ℕ)). NamesAre known bytes (ns, y.1)) (sym list.items) made
 
 pub names_again : (known : List (List ℕ)) (bytes : List ℕ) (names : List (List ℕ)) (rest : List ℕ) → Takes bytes (names_tokens names ++ Semicolon ∷ []) rest → 1 ≤ length names → are_new known names ≡ true → length names ≤ 1024 - length known → names_at known bytes ≡ Ok (names, rest)
@@ -224,11 +224,11 @@ operation_sound asks known bytes y e =
     let inner : Takes bytes (OpenBracket ∷ (piece_tokens list.head ++ more_tokens piece_tokens CloseBracket list.tail)) b.0.1 = (a.0.1, open_bracket_ok bytes a.0 a.1, list.takes) in
     let outer : Takes bytes (pieces_tokens (list.head ∷ list.tail)) b.0.1 = subst (λ (ts : List Token). Takes bytes ts b.0.1) (sym (pieces_are list.head list.tail)) inner in
     let made : OperationIs asks known bytes (list.head ∷ list.tail, d.0.1) =
-      record {
-        takes = Takes-join (pieces_tokens (list.head ∷ list.tail)) (Semicolon ∷ []) bytes b.0.1 d.0.1 outer (d.0.1, semicolon_ok b.0.1 d.0 d.1, refl);
-        count = and_from (leb 1 (length (list.head ∷ list.tail))) (leb (length (list.head ∷ list.tail)) 16) (le-leb 1 (length (list.head ∷ list.tail)) (omega arith)) (le-leb (length (list.head ∷ list.tail)) 16 list.few);
-        allowed = may_all asks known [] (list.head ∷ list.tail) ∙ list.rules;
-      } in
+    record {
+      takes = Takes-join (pieces_tokens (list.head ∷ list.tail)) (Semicolon ∷ []) bytes b.0.1 d.0.1 outer (d.0.1, semicolon_ok b.0.1 d.0 d.1, refl);
+      count = and_from (leb 1 (length (list.head ∷ list.tail))) (leb (length (list.head ∷ list.tail)) 16) (le-leb 1 (length (list.head ∷ list.tail)) (omega arith)) (le-leb (length (list.head ∷ list.tail)) 16 list.few);
+      allowed = may_all asks known [] (list.head ∷ list.tail) ∙ list.rules;
+    } in
     subst (OperationIs asks known bytes) (ap (λ (ps : List PlainPiece). (ps, d.0.1)) (sym list.items) ∙ ok_is (b.0.0, d.0.1) y d.2) made
 
 pub operation_again : (asks : Bool) (known : List (List ℕ)) (bytes : List ℕ) (pieces : List PlainPiece) (rest : List ℕ) → Takes bytes (pieces_tokens pieces ++ Semicolon ∷ []) rest → is_some_up_to 16 pieces ≡ true → all_may asks known pieces ≡ true → operation_at asks known bytes ≡ Ok (pieces, rest)

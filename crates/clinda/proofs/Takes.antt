@@ -1,7 +1,6 @@
 -- Bytes that take tokens, one after the other, and steps that read one.
-use Rattle.std.proofs.Common.{◌≡◌, ℕ, Bool, true, false, cond, List, [], ◌∷◌, ◌++◌, length, Option, Some, None, Result, Ok, Err, refl, sym, ap, subst, ◌∙◌}
-use Rattle.std.specs.List.{list_all}
-use Rattle.cl_model.specs.Tokens.{Token, OpenBracket, CloseBracket, OpenBrace, Semicolon, is_blank, IsFirst, Splits}
+use Rattle.std.proofs.Common.{◌≡◌, ℕ, List, [], ◌∷◌, ◌++◌, length, Option, Some, None, Result, Ok, Err, refl, sym, ap, subst, ◌∙◌}
+use Rattle.cl_model.specs.Tokens.{Token, OpenBracket, CloseBracket, OpenBrace, Semicolon, Splits}
 use Rattle.clinda.specs.ReadingTokens.{skip, token_at}
 use Rattle.clinda.specs.Reading.{◌>>=◌, taken, choose, chosen_at, open_bracket, close_bracket, open_brace, semicolon}
 use Rattle.clinda.proofs.Lexer.{first_is_read, read_is_first, all_blank, blank_all}

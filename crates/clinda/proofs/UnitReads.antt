@@ -1,8 +1,8 @@
 -- What reading gives, in the words of the contract.
-use Rattle.std.proofs.Common.{◌≡◌, ℕ, ◌≤◌, List, length, Result, Ok, Err, refl, sym, ap, subst, ◌∙◌}
+use Rattle.std.proofs.Common.{◌≡◌, ℕ, List, Ok, Err, sym, ◌∙◌}
 use Rattle.cl_model.specs.Small.{PlainItem, Accepted}
 use Rattle.clinda.specs.Reading.{unit_at}
-use Rattle.clinda.proofs.Takes.{done, ok_is}
+use Rattle.clinda.proofs.Takes.{ok_is}
 use Rattle.clinda.proofs.ItemReads.{unit_again}
 
 pub only_unit : (source : List ℕ) (found items : List PlainItem) → unit_at source ≡ Ok found → Accepted source items → found ≡ items

@@ -1,5 +1,5 @@
 -- Reading a source from left to right, up to the first token that isn't in place. (This project.)
-use Rattle.std.specs.Prelude.{◌≡◌, ℕ, zero, suc, ◌-◌, ◌+◌, ◌==◌, Bool, true, false, not, ◌&&◌, nat_lt, List, [], ◌∷◌, ◌++◌, length, codes, Option, Some, None, Result, Ok, Err, if◌then◌else◌}
+use Rattle.std.specs.Prelude.{◌≡◌, ℕ, zero, suc, ◌-◌, ◌==◌, Bool, true, false, nat_lt, List, [], ◌∷◌, ◌++◌, length, codes, Option, Some, None, Result, Ok, Err, if◌then◌else◌}
 use Rattle.cl_model.specs.Tokens.{Token, Name, IntWord, OutWord, InWord, Number, Str, OpenBracket, CloseBracket, OpenBrace, CloseBrace, Comma, Semicolon, Question, same_bytes}
 use Rattle.cl_model.specs.Small.{PlainPiece, Text, Literal, Formal, PlainItem, Declare, DoOut, DoIn, is_known, declared_in, operations_in}
 use Rattle.clinda.specs.ReadingTokens.{token_at, skip}

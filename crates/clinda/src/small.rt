@@ -7,11 +7,10 @@ mod name;
 mod number;
 mod piece;
 mod stop;
-mod token;
-mod word;
-
 #[cfg(test)]
 mod tests;
+mod token;
+mod word;
 
 ghost use Rattle.std.specs.Prelude.{◌≡◌, ◌≤◌, List, length, IfOk, IfErr, MatchResult};
 ghost use Rattle.cl_model.specs.Small.{PlainItem, Accepted};

@@ -35,16 +35,13 @@ fn next_item<'a>(
     ensures known { IfOk result (λ x. map (λ n. n.now) known.new.items ≡ map (λ n. n.now) known.old.items ++ names_of (option_map plain_item x.0)) }
 {
     let at = after_blanks(bytes);
-    let Some((token, rest)) = token_at(at) else {
-        return Err(Stop::Refused(at.len()));
-    };
-    match token {
-        Token::CloseBrace => Ok((None, rest)),
-        Token::IntWord => match names(alloc, known, rest) {
+    match token_at(at) {
+        Some((Token::CloseBrace, rest)) => Ok((None, rest)),
+        Some((Token::IntWord, rest)) => match names(alloc, known, rest) {
             Ok((names, rest)) => Ok((Some(Item::Declare(names)), rest)),
             Err(stop) => Err(stop),
         },
-        Token::OutWord => {
+        Some((Token::OutWord, rest)) => {
             if operations < MOST_OPERATIONS {
                 match operation(alloc, false, known.as_slice(), rest) {
                     Ok((pieces, rest)) => Ok((Some(Item::Out(pieces)), rest)),
@@ -54,7 +51,7 @@ fn next_item<'a>(
                 Err(Stop::Refused(at.len()))
             }
         }
-        Token::InWord => {
+        Some((Token::InWord, rest)) => {
             if operations < MOST_OPERATIONS {
                 match operation(alloc, true, known.as_slice(), rest) {
                     Ok((pieces, rest)) => Ok((Some(Item::In(pieces)), rest)),

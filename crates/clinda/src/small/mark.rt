@@ -23,11 +23,8 @@ pub fn after_close_bracket(bytes: &[u8]) -> Result<&[u8], Stop>
     ensures { Gives (λ rest. (tt, rest.now)) result (chosen_at close_bracket bytes.now) }
 {
     let at = after_blanks(bytes);
-    let Some((token, rest)) = token_at(at) else {
-        return Err(Stop::Refused(at.len()));
-    };
-    match token {
-        Token::CloseBracket => Ok(rest),
+    match token_at(at) {
+        Some((Token::CloseBracket, rest)) => Ok(rest),
         _ => Err(Stop::Refused(at.len())),
     }
 }
@@ -37,11 +34,8 @@ pub fn after_open_brace(bytes: &[u8]) -> Result<&[u8], Stop>
     ensures { Gives (λ rest. (tt, rest.now)) result (chosen_at open_brace bytes.now) }
 {
     let at = after_blanks(bytes);
-    let Some((token, rest)) = token_at(at) else {
-        return Err(Stop::Refused(at.len()));
-    };
-    match token {
-        Token::OpenBrace => Ok(rest),
+    match token_at(at) {
+        Some((Token::OpenBrace, rest)) => Ok(rest),
         _ => Err(Stop::Refused(at.len())),
     }
 }
@@ -51,11 +45,8 @@ pub fn after_semicolon(bytes: &[u8]) -> Result<&[u8], Stop>
     ensures { Gives (λ rest. (tt, rest.now)) result (chosen_at semicolon bytes.now) }
 {
     let at = after_blanks(bytes);
-    let Some((token, rest)) = token_at(at) else {
-        return Err(Stop::Refused(at.len()));
-    };
-    match token {
-        Token::Semicolon => Ok(rest),
+    match token_at(at) {
+        Some((Token::Semicolon, rest)) => Ok(rest),
         _ => Err(Stop::Refused(at.len())),
     }
 }
@@ -65,12 +56,9 @@ pub fn piece_follows(bytes: &[u8]) -> Result<(bool, &[u8]), Stop>
     ensures { Gives (λ x. (x.0, x.1.now)) result (chosen_at goes_on bytes.now) }
 {
     let at = after_blanks(bytes);
-    let Some((token, rest)) = token_at(at) else {
-        return Err(Stop::Refused(at.len()));
-    };
-    match token {
-        Token::Comma => Ok((true, rest)),
-        Token::CloseBracket => Ok((false, rest)),
+    match token_at(at) {
+        Some((Token::Comma, rest)) => Ok((true, rest)),
+        Some((Token::CloseBracket, rest)) => Ok((false, rest)),
         _ => Err(Stop::Refused(at.len())),
     }
 }
@@ -80,12 +68,9 @@ pub fn name_follows(bytes: &[u8]) -> Result<(bool, &[u8]), Stop>
     ensures { Gives (λ x. (x.0, x.1.now)) result (chosen_at names_go_on bytes.now) }
 {
     let at = after_blanks(bytes);
-    let Some((token, rest)) = token_at(at) else {
-        return Err(Stop::Refused(at.len()));
-    };
-    match token {
-        Token::Comma => Ok((true, rest)),
-        Token::Semicolon => Ok((false, rest)),
+    match token_at(at) {
+        Some((Token::Comma, rest)) => Ok((true, rest)),
+        Some((Token::Semicolon, rest)) => Ok((false, rest)),
         _ => Err(Stop::Refused(at.len())),
     }
 }

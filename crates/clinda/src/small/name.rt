@@ -20,11 +20,8 @@ pub fn after_main_name(bytes: &[u8]) -> Result<&[u8], Stop>
     ensures { Gives (λ rest. (tt, rest.now)) result (chosen_at main_name bytes.now) }
 {
     let at = after_blanks(bytes);
-    let Some((token, rest)) = token_at(at) else {
-        return Err(Stop::Refused(at.len()));
-    };
-    match token {
-        Token::Name(name) => {
+    match token_at(at) {
+        Some((Token::Name(name), rest)) => {
             if is_same(name, b"real_main") {
                 Ok(rest)
             } else {
@@ -40,11 +37,8 @@ fn next_new<'a>(known: &[&[u8]], bytes: &'a [u8]) -> Result<(&'a [u8], &'a [u8])
     ensures { Gives (λ x. (x.0.now, x.1.now)) result (chosen_at (new_name (map (λ n. n.now) known.now)) bytes.now) }
 {
     let at = after_blanks(bytes);
-    let Some((token, rest)) = token_at(at) else {
-        return Err(Stop::Refused(at.len()));
-    };
-    match token {
-        Token::Name(name) => {
+    match token_at(at) {
+        Some((Token::Name(name), rest)) => {
             if is_among(known, name) {
                 Err(Stop::Refused(at.len()))
             } else {
@@ -60,11 +54,8 @@ pub fn next_known<'a>(known: &[&[u8]], bytes: &'a [u8]) -> Result<(&'a [u8], &'a
     ensures { Gives (λ x. (x.0.now, x.1.now)) result (chosen_at (known_name (map (λ n. n.now) known.now)) bytes.now) }
 {
     let at = after_blanks(bytes);
-    let Some((token, rest)) = token_at(at) else {
-        return Err(Stop::Refused(at.len()));
-    };
-    match token {
-        Token::Name(name) => {
+    match token_at(at) {
+        Some((Token::Name(name), rest)) => {
             if is_among(known, name) {
                 Ok((name, rest))
             } else {

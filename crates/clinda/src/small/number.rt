@@ -19,5 +19,7 @@ pub fn literal_of_digits(digits: &[u8]) -> Option<Literal>
             return None;
         }
     }
-    Some(Literal { value: value as u32 })
+    Some(Literal {
+        value: value as u32,
+    })
 }

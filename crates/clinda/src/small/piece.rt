@@ -19,11 +19,7 @@ const MOST_PIECES: usize = 16;
 
 // Reads a formal behind its `?`.
 #[tactic(auto, unfolding(crate::specs::Reading::formal_at))]
-fn formal<'a>(
-    alloc: Global,
-    known: &[&[u8]],
-    bytes: &'a [u8],
-) -> Result<(Piece, &'a [u8]), Stop>
+fn formal<'a>(alloc: Global, known: &[&[u8]], bytes: &'a [u8]) -> Result<(Piece, &'a [u8]), Stop>
     ensures { Gives (λ x. (plain_piece x.0, x.1.now)) result (formal_at (map (λ n. n.now) known.now) bytes.now) }
 {
     let (name, rest) = next_known(known, bytes)?;
@@ -42,16 +38,13 @@ fn piece<'a>(
     ensures { Gives (λ x. (plain_piece x.0, x.1.now)) result (piece_at asks (map (λ n. n.now) known.now) bytes.now) }
 {
     let at = after_blanks(bytes);
-    let Some((token, rest)) = token_at(at) else {
-        return Err(Stop::Refused(at.len()));
-    };
-    match token {
-        Token::Str(text) => {
+    match token_at(at) {
+        Some((Token::Str(text), rest)) => {
             let text = Items::from_slice(alloc, text)?;
             Ok((Piece::Text(text), rest))
         }
-        Token::Number(literal) => Ok((Piece::Number(literal), rest)),
-        Token::Question => {
+        Some((Token::Number(literal), rest)) => Ok((Piece::Number(literal), rest)),
+        Some((Token::Question, rest)) => {
             if asks {
                 formal(alloc, known, rest)
             } else {

@@ -1,5 +1,4 @@
 use super::*;
-use std::process::Abort;
 use std::test::*;
 
 // The place where the source is refused, if it is.
@@ -30,7 +29,10 @@ fn read(rt: HostRuntime) {
     assert_eq!(rt; items_of(rt.alloc(), source), Some(3));
     assert_eq!(rt; items_of(rt.alloc(), b" real_main\t(\r\n) { } \n"), Some(0));
     assert_eq!(rt; items_of(rt.alloc(), b"real_main(){in(\"x\");}"), Some(1));
-    assert_eq!(rt; items_of(rt.alloc(), b"real_main(){out(2147483647,0);}"), Some(1));
+    assert_eq!(rt;
+        items_of(rt.alloc(), b"real_main(){out(2147483647,0);}"),
+        Some(1)
+    );
 }
 
 #[test]
@@ -38,12 +40,21 @@ fn refused(rt: HostRuntime) {
     assert_eq!(rt; place_of(rt.alloc(), b""), Some(0));
     assert_eq!(rt; place_of(rt.alloc(), b"  "), Some(2));
     assert_eq!(rt; place_of(rt.alloc(), b"real_main(){switch(1){}}"), Some(12));
-    assert_eq!(rt; place_of(rt.alloc(), b"real_main(){out(\"x\",y);}"), Some(20));
+    assert_eq!(rt;
+        place_of(rt.alloc(), b"real_main(){out(\"x\",y);}"),
+        Some(20)
+    );
     assert_eq!(rt; place_of(rt.alloc(), b"real_main(){out(00);}"), Some(17));
-    assert_eq!(rt; place_of(rt.alloc(), b"real_main(){out(2147483648);}"), Some(16));
+    assert_eq!(rt;
+        place_of(rt.alloc(), b"real_main(){out(2147483648);}"),
+        Some(16)
+    );
     assert_eq!(rt; place_of(rt.alloc(), b"real_main(){in(?v);}"), Some(16));
     assert_eq!(rt; place_of(rt.alloc(), b"real_main(){int v,v;}"), Some(18));
-    assert_eq!(rt; place_of(rt.alloc(), b"real_main(){int v;out(?v);}"), Some(22));
+    assert_eq!(rt;
+        place_of(rt.alloc(), b"real_main(){int v;out(?v);}"),
+        Some(22)
+    );
     assert_eq!(rt; place_of(rt.alloc(), b"real_main(){} 5"), Some(14));
     assert_eq!(rt; place_of(rt.alloc(), b"real_main(){out(\"x);}"), Some(16));
 }

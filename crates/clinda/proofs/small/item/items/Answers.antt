@@ -1,10 +1,7 @@
-use Rattle.std.proofs.Common.{◌≡◌, [], ◌∷◌, ◌++◌, ◌+◌, List, ℕ, map, Bor, Option, Some, None, Ok, ◌∙◌, refl, sym, ap, arith}
-use Rattle.std.specs.Prelude.{option_map}
+use Rattle.std.proofs.Common.{◌≡◌, [], ◌∷◌, ◌++◌, ◌+◌, List, ℕ, map, Bor, ◌∙◌, sym, ap, arith}
 use Rattle.std.proofs.lemmas.List.{map_push}
-use Rattle.cl_model.specs.Small.{PlainItem, declared_in, operations_in}
+use Rattle.cl_model.specs.Small.{declared_in, operations_in}
 use Rattle.cl_model.specs.SmallViews.{plain_item}
-use Rattle.clinda.specs.Reading.{item_at}
-use Rattle.clinda.specs.ReadingViews.{names_of}
 use Rattle.clinda.proofs.Loops.{items_go_on, items_end, item_fails, items_are_full, declared_last, operations_last}
 use Rattle.clinda.proofs.small.item.items.Goals as goal
 

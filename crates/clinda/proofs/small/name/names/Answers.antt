@@ -1,4 +1,4 @@
-use Rattle.std.proofs.Common.{◌≡◌, [], ◌∷◌, ◌++◌, ◌-◌, List, ℕ, map, length, Bor, ◌∙◌, refl, sym, ap, append_assoc}
+use Rattle.std.proofs.Common.{◌≡◌, [], ◌∷◌, ◌++◌, List, ℕ, map, Bor, ◌∙◌, refl, ap, append_assoc}
 use Rattle.std.proofs.lemmas.List.{map_push}
 use Rattle.cl_value.specs.declared.items.Items.{Items}
 use Rattle.clinda.specs.Reading.{name_at, names_go_on}

@@ -1,4 +1,4 @@
-use Rattle.std.proofs.Common.{◌≡◌, [], ◌∷◌, ◌++◌, List, ℕ, map, Bor, ◌∙◌, sym, ap}
+use Rattle.std.proofs.Common.{◌≡◌, [], ◌∷◌, ◌++◌, List, ℕ, map, Bor}
 use Rattle.std.proofs.lemmas.List.{map_push}
 use Rattle.cl_model.specs.SmallViews.{plain_piece}
 use Rattle.clinda.specs.Reading.{goes_on, piece_at}
