@@ -6,3 +6,4 @@ pub mod ListReads
 pub mod PieceReads
 pub mod ItemReads
 pub mod UnitReads
+pub mod Within

@@ -35,7 +35,7 @@ pub enum SmallEnd {
 }
 
 /// The unit of a source of the small form.
-#[tactic(auto, using(crate::proofs::UnitReads::only_unit))]
+#[tactic(auto, using(crate::proofs::UnitReads::only_unit, crate::proofs::Within::unit_left))]
 pub fn read_small(alloc: Global, source: &[u8]) -> Result<SmallUnit, SmallEnd>
     requires { length source.now ≤ 1048576 }
     // What is read is the source's unit.
@@ -48,7 +48,7 @@ pub fn read_small(alloc: Global, source: &[u8]) -> Result<SmallUnit, SmallEnd>
     match unit(alloc, source) {
         Ok(found) => Ok(found),
         Err(Stop::Refused(left)) => Err(SmallEnd::NotBuilt {
-            place: source.len().saturating_sub(left),
+            place: source.len() - left,
         }),
         Err(Stop::NoMemory) => Err(SmallEnd::NoMemory),
     }
