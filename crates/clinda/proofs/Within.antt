@@ -1,7 +1,7 @@
 -- Reading goes only forward: what is left is no more than there was.
-use Rattle.std.proofs.Common.{◌≡◌, ℕ, zero, suc, ◌+◌, ◌≤◌, Bool, true, false, cond, eqb, List, [], ◌∷◌, ◌++◌, length, drop, Option, Some, None, Result, Ok, Err, refl, sym, ap, subst, ◌∙◌, arith}
+use Rattle.std.proofs.Common.{◌≡◌, ℕ, zero, suc, ◌≤◌, Bool, true, false, cond, eqb, List, [], ◌∷◌, ◌++◌, length, Option, Some, None, Result, Ok, Err, refl, ap, subst, arith}
 use Rattle.std.proofs.lemmas.List.{length-append, length-drop}
-use Rattle.cl_model.specs.Tokens.{Token, is_blank, spelling, IsFirst}
+use Rattle.cl_model.specs.Tokens.{Token, is_blank, spelling}
 use Rattle.cl_model.specs.Small.{PlainPiece, PlainItem, Formal, Declare, DoOut, DoIn, declared_in, operations_in}
 use Rattle.clinda.specs.ReadingTokens.{run, skip, token_at}
 use Rattle.clinda.specs.Reading.{◌>>=◌, taken, choose, chosen_at, open_bracket, close_bracket, open_brace, semicolon, main_name, goes_on, names_go_on, known_name, piece_start, formal_at, piece_from, piece_at, list_at, name_at, new_name, names_at, pieces_at, operation_at, Start, Closes, Declares, Gives_out, Asks, item_start, item_from, item_at, after_item, items_at, end_at, unit_at}
