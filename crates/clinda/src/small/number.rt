@@ -5,6 +5,7 @@ ghost use Rattle.clinda.specs.ReadingTokens.{literal_of};
 
 use cl_model::Literal;
 
+// The greatest `int`.
 const MOST: u64 = 2147483647;
 
 /// The literal of these digits, unless its value is too great for an `int`.

@@ -1,4 +1,5 @@
 use super::*;
+use std::alloc::AllocError;
 use std::test::*;
 
 // The place where the source is refused, if it is.
@@ -65,4 +66,45 @@ fn counts(rt: HostRuntime) {
     assert_eq!(rt; items_of(rt.alloc(), sixteen), Some(1));
     let seventeen = b"real_main(){out(1,2,3,4,5,6,7,8,9,0,1,2,3,4,5,6,7);}";
     assert_eq!(rt; place_of(rt.alloc(), seventeen), Some(48));
+}
+
+// A source with so many operations.
+fn operations(alloc: Global, count: usize) -> Result<Vec<u8>, AllocError> {
+    let mut source = Vec::new(alloc);
+    source.extend_from_slice(b"real_main(){")?;
+    for _ in 0..count {
+        source.extend_from_slice(b"out(1);")?;
+    }
+    source.push(b'}')?;
+    Ok(source)
+}
+
+// A source that declares so many names, fewer than 4,096.
+fn declarations(alloc: Global, count: usize) -> Result<Vec<u8>, AllocError> {
+    let mut source = Vec::new(alloc);
+    source.extend_from_slice(b"real_main(){")?;
+    for i in 0..count {
+        let first = b'a' + (i / 256 % 16) as u8;
+        let second = b'a' + (i / 16 % 16) as u8;
+        let third = b'a' + (i % 16) as u8;
+        source.extend_from_slice(&[b'i', b'n', b't', b' ', first, second, third, b';'])?;
+    }
+    source.push(b'}')?;
+    Ok(source)
+}
+
+#[test]
+fn limits(rt: HostRuntime) -> Result<(), Fail> {
+    let alloc = rt.alloc();
+    assert_eq!(rt; items_of(alloc, &operations(alloc, 1024)?), Some(1024));
+    assert_eq!(rt;
+        place_of(alloc, &operations(alloc, 1025)?),
+        Some(12 + 7 * 1024)
+    );
+    assert_eq!(rt; items_of(alloc, &declarations(alloc, 1024)?), Some(1024));
+    assert_eq!(rt;
+        place_of(alloc, &declarations(alloc, 1025)?),
+        Some(12 + 8 * 1024 + 4)
+    );
+    Ok(())
 }

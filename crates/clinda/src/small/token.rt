@@ -13,6 +13,7 @@ use cl_model::Literal;
 /// A token of the small form.
 #[derive(Clone, Copy)]
 pub enum Token<'a> {
+    /// A word that isn't reserved.
     Name(&'a [u8]),
     IntWord,
     OutWord,
@@ -29,6 +30,7 @@ pub enum Token<'a> {
     Question,
 }
 
+// The token of a reserved word.
 #[tactic(auto, unfolding(crate::specs::ReadingTokens::keyword_of))]
 fn keyword(word: &[u8]) -> Option<Token<'_>>
     ensures { option_map token_view result ≡ keyword_of word.now }
@@ -44,6 +46,7 @@ fn keyword(word: &[u8]) -> Option<Token<'_>>
     }
 }
 
+// The token of a whole word.
 #[tactic(auto, unfolding(crate::specs::ReadingTokens::word_of))]
 fn word_token(word: &[u8]) -> Option<Token<'_>>
     ensures { option_map token_view result ≡ word_of word.now }
@@ -55,6 +58,7 @@ fn word_token(word: &[u8]) -> Option<Token<'_>>
     }
 }
 
+// The token of one byte.
 #[tactic(auto, unfolding(crate::specs::ReadingTokens::mark_of))]
 fn mark(byte: u8) -> Option<Token<'static>>
     ensures { option_map token_view result ≡ mark_of byte }
@@ -71,6 +75,7 @@ fn mark(byte: u8) -> Option<Token<'static>>
     }
 }
 
+// Reads a word.
 fn word_at(bytes: &[u8]) -> Option<(Token<'_>, &[u8])>
     ensures { option_map (λ x. (token_view x.0, x.1.now)) result ≡ word_at bytes.now }
 {
@@ -81,6 +86,7 @@ fn word_at(bytes: &[u8]) -> Option<(Token<'_>, &[u8])>
     }
 }
 
+// Reads a number that doesn't begin with 0.
 fn number_at(bytes: &[u8]) -> Option<(Token<'_>, &[u8])>
     ensures { option_map (λ x. (token_view x.0, x.1.now)) result ≡ number_at bytes.now }
 {

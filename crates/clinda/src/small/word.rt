@@ -23,6 +23,7 @@ pub fn is_among(words: &[&[u8]], word: &[u8]) -> bool
     false
 }
 
+// The words of the language, and those that C reserves.
 const RESERVED: [&[u8]; 39] = [
     b"int",
     b"long",
