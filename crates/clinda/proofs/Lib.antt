@@ -1,2 +1,11 @@
 pub mod Standing
 pub mod Goods
+pub mod Runs
+pub mod Loops
+pub mod Lexer
+pub mod Takes
+pub mod ListReads
+pub mod PieceReads
+pub mod ItemReads
+pub mod UnitReads
+pub mod Within

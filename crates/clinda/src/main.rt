@@ -3,6 +3,7 @@
 
 mod report_text;
 mod running;
+mod small;
 mod stage;
 mod tables;
 mod text;
