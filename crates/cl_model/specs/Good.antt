@@ -20,12 +20,13 @@ pub record IsUnfinished (name : ℕ) (p : Process) (outcome : Outcome) : Type 0 
   pub no_trap : (t : _) → outcome ≢ Traps t
   pub not_over : is_over name p outcome ≡ false
 
--- the end agrees with what the process demands after its replies
+-- the end agrees with what the process demands after its replies; no limit of acts stands yet, so that no
+-- history is full
 abbrev pub EndAgrees : RunKind → PlainReport → Process → Outcome → PlainEnd → Type 0
 EndAgrees kind r p outcome (Ended values) = (outcome ≡ Finishes values) × (is_over r.name p outcome ≡ true)
 EndAgrees kind r p outcome (Trapped t) = outcome ≡ Traps t
 EndAgrees kind r p outcome NoThread = (kind ≡ Threads) × (r.acts ≡ [])
-EndAgrees kind r p outcome (HistoryFull set) = IsUnfinished r.name p outcome
+EndAgrees kind r p outcome (HistoryFull set) = ⊥
 EndAgrees kind r p outcome NoMemory = Unit {0}
 EndAgrees kind r p outcome (Stopped by) = IsUnfinished r.name p outcome
 EndAgrees kind r p outcome Waiting = IsUnfinished r.name p outcome

@@ -9,3 +9,6 @@ pub mod PieceReads
 pub mod ItemReads
 pub mod UnitReads
 pub mod Within
+pub mod Numbers
+pub mod Sayings
+pub mod Clauses

@@ -1,5 +1,5 @@
 -- How the process of a small unit left off. (This project.)
-use Rattle.std.specs.Prelude.{[], ◌∷◌, List, pos}
+use Rattle.std.specs.Prelude.{ℕ, ◌≡◌, ◌⊎◌, [], ◌∷◌, List, pos}
 use Rattle.cl_value.specs.Plain.{PlainEnd, Ended, Waiting, NoMemory}
 use Rattle.cl_value.specs.declared.value.Value.TheVariants as values
 use Rattle.cl_model.specs.Small.{PlainItem}
@@ -17,3 +17,7 @@ end_of left_off.NoMemory = NoMemory
 -- the run stands where it left off so
 abbrev pub LeavesAt : List PlainItem → Moment → LeftOff → Type 0
 LeavesAt unit m left = StandsAt unit m (end_of left)
+
+-- the statuses of a run of one process
+abbrev pub IsRunStatus : ℕ → Type 0
+IsRunStatus status = (status ≡ 0) ⊎ ((status ≡ 7) ⊎ (status ≡ 8))

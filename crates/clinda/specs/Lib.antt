@@ -6,3 +6,8 @@ pub mod ReadingTokens
 pub mod ReadingViews
 pub mod Reading
 pub mod ReadingEnds
+pub mod Saying
+pub mod Answering
+pub mod Top
+pub mod Words
+pub mod Commanded

@@ -28,7 +28,7 @@ ghost use Rattle.cl_model.specs.SmallMeaning.{small_demands, small_sets};
 ghost use Rattle.cl_model.specs.SmallMeaning as meaning;
 ghost use Rattle.clinda.specs.Tables.{table};
 ghost use Rattle.clinda.specs.Standing.{Stands, IsSound, Performed, Blocked, one_history, status_at, run_of};
-ghost use Rattle.clinda.specs.Leaving.{LeavesAt};
+ghost use Rattle.clinda.specs.Leaving.{LeavesAt, IsRunStatus};
 ghost use Rattle.clinda.specs.Leaving as leaving;
 
 // Does a declaration or statement.
@@ -195,6 +195,7 @@ pub fn run_small<L: Ledger>(
     requires operations { small.operations_in (plain_unit unit.now) ≤ 1024 }
     ensures good { IfOk result (λ run. GoodRun (small_demands (plain_unit unit.now)) (small_sets (plain_unit unit.now)) Turns (plain_run run)) }
     ensures few { IfOk result (λ run. length (acts_in (plain_run run).histories) ≤ 1024) }
+    ensures status { IfOk result (λ run. IsRunStatus run.status) }
 {
     let items = unit.items.as_slice();
     let texts = texts_of(alloc, items)?;

@@ -1,4 +1,4 @@
-use Rattle.std.proofs.Common.{◌≡◌, ◌≤◌, ◌+◌, ℕ, List, [], ◌<◌, arith, ap, ◌∙◌, sym, subst, length}
+use Rattle.std.proofs.Common.{◌≡◌, ◌≤◌, ◌+◌, ℕ, List, [], ◌<◌, arith, inl, inr, refl, ap, ◌∙◌, sym, subst, length}
 use Rattle.std.specs.Prelude.{map}
 use Rattle.std.specs.List.{AllByRecursion}
 use Rattle.std.proofs.lemmas.Result.{IfOk-weaker}
@@ -8,6 +8,7 @@ use Rattle.cl_value.specs.Tickets.{acts_in}
 use Rattle.cl_value.specs.declared.process.RunReport.{RunReport}
 use Rattle.cl_model.specs.declared.small.Item.{Item}
 use Rattle.clinda.specs.declared.running.LeftOff.{LeftOff}
+use Rattle.clinda.specs.declared.running.LeftOff.TheVariants as left_off
 use Rattle.clinda.specs.Moment.{Moment, beginning}
 use Rattle.cl_value.specs.Views.{plain_run}
 use Rattle.cl_model.specs.Good.{GoodRun, Turns}
@@ -15,8 +16,8 @@ use Rattle.cl_model.specs.Small.{PlainItem, operations_in}
 use Rattle.cl_model.specs.SmallViews.{plain_item, plain_unit}
 use Rattle.cl_model.specs.SmallMeaning.{texts_of, small_demands, small_sets}
 use Rattle.clinda.specs.Tables.{table}
-use Rattle.clinda.specs.Leaving.{end_of, LeavesAt}
-use Rattle.clinda.specs.Standing.{Stands, IsSound, run_of}
+use Rattle.clinda.specs.Leaving.{end_of, LeavesAt, IsRunStatus}
+use Rattle.clinda.specs.Standing.{Stands, IsSound, status_at, run_of}
 use Rattle.clinda.proofs.Standing.{keeps_sound, fields_few, begins}
 use Rattle.clinda.proofs.Goods.{run_is_good, few_reported}
 use Rattle.clinda.proofs.running.run_small.Goals as goal
@@ -42,6 +43,11 @@ leaves_there unit items texts stage begun left same table_is at_first leaves =
     let start : Stands unit (map plain_item items) begun = subst (λ m. Stands unit (map plain_item items) m) (sym at_first) (subst (λ xs. Stands unit xs beginning) (sym same) (begins unit)) in
     leaves unit (table_is ∙ ap texts_of same) start
 
+status_of : (left : LeftOff) → IsRunStatus (status_at (end_of left))
+status_of left_off.Finished = inl refl
+status_of left_off.Waits = inr (inl refl)
+status_of left_off.NoMemory = inr (inr refl)
+
 bounded : {a b d : ℕ} → a ≤ b → b ≤ d → a ≤ d
 bounded h k = omega arith
 
@@ -64,4 +70,6 @@ returns g c =
       few = IfOk-weaker c.report_of.result (λ run. plain_run run ≡ run_of c.operations_in.result stage (end_of left)) (λ run. length (acts_in (plain_run run).histories) ≤ 1024)
           (λ run h. subst (λ (r : PlainRun). length (acts_in r.histories) ≤ 1024) (sym (reported run h)) (bounded (few_reported unit stage (end_of left) (operations_in unit) leaves) c.requires.operations))
           c.report_of.ensures;
+      status = IfOk-weaker c.report_of.result (λ run. plain_run run ≡ run_of c.operations_in.result stage (end_of left)) (λ run. IsRunStatus run.status)
+          (λ run h. subst IsRunStatus (sym (ap (λ (r : PlainRun). r.status) h)) (status_of left)) c.report_of.ensures;
     }

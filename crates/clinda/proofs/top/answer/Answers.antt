@@ -1,0 +1,18 @@
+use Rattle.std.proofs.Common.{ap, None, ◌∙◌, refl, sym}
+use Rattle.std.specs.Prelude.{option_map}
+use Rattle.cl_value.specs.Views.{plain_run}
+use Rattle.cl_model.specs.Refusals.{words_refused}
+use Rattle.clinda.specs.declared.top.TopEnd.{TopEnd}
+use Rattle.clinda.specs.Answering.{NoCommand, Commanded}
+use Rattle.clinda.specs.Commanded.{plain_command}
+use Rattle.clinda.proofs.Sayings.{resaid}
+use Rattle.clinda.proofs.top.answer.Goals as goal
+
+pub returns-in-Some-Seq : goal.returns-in-Some-Seq
+returns-in-Some-Seq g c = Commanded (plain_command c.in-Some-Seq.field-0) c.in-Some-Seq.ensures.spelled c.read_and_judge.ensures
+
+pub returns-in-None : goal.returns-in-None
+returns-in-None g c =
+    let status = ap (λ (end : TopEnd). end.status) c.without_report.ensures in
+    NoCommand c.in-None.ensures.none refl refl (ap (λ (end : TopEnd). option_map plain_run end.report) c.without_report.ensures)
+    (resaid c.words_refused.result.now words_refused 1 c.say.result c.without_report.result.status c.words_refused.ensures status c.say.ensures)

@@ -1,0 +1,10 @@
+-- How a text is written at the end of a call. (This project.)
+use Rattle.std.specs.Prelude.{ℕ, ◌≡◌, ◌<◌, List, length, take, Option}
+use Rattle.cl_outside.specs.Faults.{Rose}
+use Rattle.cl_outside.specs.Streams.{Appends}
+
+-- The text was written whole, and the status is the one that was found; or a write failed, a front of the
+-- text was written, and the status is 5.
+pub data Said (text : List ℕ) (found status : ℕ) (before after : Option (List ℕ)) (faults_before faults_after : ℕ) : Type 0 where
+  Whole : status ≡ found → Appends before text after → faults_after ≡ faults_before → Said text found status before after faults_before faults_after
+  Part : (n : ℕ) → n < length text → status ≡ 5 → Appends before (take n text) after → Rose faults_before faults_after → Said text found status before after faults_before faults_after
