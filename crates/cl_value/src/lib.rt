@@ -12,6 +12,8 @@ mod process;
 mod request;
 mod steps;
 mod template;
+#[cfg(test)]
+mod tests;
 mod tuple;
 mod value;
 
