@@ -1,6 +1,6 @@
 -- What the process of a small unit does, by recursion on its items. (Gelernter 1985 for the operations;
 -- variables that begin at 0, and the order from left to right: this project.)
-use Rattle.std.specs.Prelude.{ℕ, zero, suc, ◌+◌, ◌==◌, if◌then◌else◌, List, [], ◌∷◌, ◌++◌, map, ℤ, pos}
+use Rattle.std.specs.Prelude.{ℕ, zero, suc, ◌+◌, if◌then◌else◌, List, [], ◌∷◌, ◌++◌, map, ℤ, pos}
 use Rattle.std.specs.List.{range_with_len}
 use Rattle.cl_value.specs.Matching.{matches}
 use Rattle.cl_value.specs.Plain.{Out, In, Main, Lives, PlainReply, Done, Got, Miss}

@@ -1,5 +1,5 @@
 -- From the values of the program to their plain form, one function a type. (This project.)
-use Rattle.std.specs.Prelude.{List, map}
+use Rattle.std.specs.Prelude.{map}
 use Rattle.cl_value.specs.Plain.{PlainAsk, Out, In, Rd, Inp, Rdp, Eval, Land, PlainRequest, PlainWhat, DidOut, DidIn, DidRd, InpHit, InpMiss, RdpHit, RdpMiss, DidEval, DidLand, PlainAct, PlainStart, Main, Lives, PlainEnd, Ended, Trapped, NoThread, HistoryFull, NoMemory, Stopped, Waiting, PlainReport, PlainHistory, PlainRun}
 use Rattle.cl_value.specs.LiveViews.{plain_live}
 use Rattle.cl_value.specs.declared.request.Ask.{Ask}
