@@ -1,0 +1,1 @@
+real_main(){int v;out("x",1);in("x",?v);}

@@ -1,0 +1,1 @@
+real_main(){in("x");}
