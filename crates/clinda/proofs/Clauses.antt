@@ -1,21 +1,20 @@
 -- The clauses of the top call follow from all the ways in which a call can go.
-use Rattle.std.proofs.Common.{◌≡◌, ◌≢◌, ℕ, ◌+◌, ◌<◌, ◌≤◌, Bool, true, false, List, [], length, take, drop, Option, Some, None, refl, sym, ap, subst, ◌∙◌, arith, inl, inr, append-nil}
+use Rattle.std.proofs.Common.{◌≡◌, ◌≢◌, ℕ, ◌<◌, ◌≤◌, Bool, true, false, List, length, take, drop, Option, Some, None, refl, sym, ap, subst, ◌∙◌, arith, inl, inr, append-nil}
 use Rattle.std.specs.Prelude.{◌⊎◌, IfSome, IsSome, IsSomeAnd}
 use Rattle.std.proofs.lemmas.List.{drop_all}
-use Rattle.cl_value.specs.Plain.{PlainRun, PlainReport, PlainEnd, Ended, Trapped, NoThread, HistoryFull, NoMemory, Stopped, Waiting}
+use Rattle.cl_value.specs.Plain.{PlainRun, PlainEnd, Ended, Trapped, NoThread, HistoryFull, NoMemory, Stopped, Waiting}
 use Rattle.cl_value.specs.Tickets.{by_ticket}
 use Rattle.cl_outside.specs.Faults.{Rose, Quiet}
 use Rattle.cl_outside.specs.Streams.{TakesAll, GivesAll, Loses, Drops, Appends}
 use Rattle.cl_model.specs.Commands.{Command, Spells, SpellsNone}
 use Rattle.cl_model.specs.Ends.{Stuck}
-use Rattle.cl_model.specs.Good.{GoodRun, Turns, EndsAgree, WithFailure, WithoutFailure, AllEnded, SomeWait, status_of, some_failure}
+use Rattle.cl_model.specs.Good.{Turns, EndsAgree, AllEnded, SomeWait, status_of, some_failure}
 use Rattle.cl_model.specs.Refusals.{words_refused, too_large, not_built}
 use Rattle.cl_model.specs.Small.{PlainItem, Accepted}
-use Rattle.cl_model.specs.SmallMeaning.{small_demands, small_sets}
+use Rattle.cl_model.specs.SmallMeaning.{small_demands}
 use Rattle.clinda.specs.Leaving.{IsRunStatus}
-use Rattle.clinda.specs.Saying.{Said}
-use Rattle.clinda.specs.Answering.{Outside, SaysNothing, HasNoUnit, HasUnit, IsRun, text_of, Telling, Told, Untold, Ran, Reported, Unreported, Refusal, Shown, Unshown, Judged, Accepts, Refuses, Unjudged, Read, Failed, Larger, NoRoom, All, Answered, NoCommand, Commanded}
-use Rattle.clinda.specs.Top.{Says, Reads, RefusesWords, WordsClause, ReadClause, TooLargeClause, RefusesSource, JudgesSource, SourceClause, Writes, WrittenClause, IsSource, RunsUnit, RunClause, TellsStuck, StuckClause, HaltedClause, ReadFaultClause, WriteFaultClause, IsText, OfWords, OfLarge, OfSource, OfRun, WritesFront, MemoryClause, Reports, ReportClause}
+use Rattle.clinda.specs.Answering.{Outside, SaysNothing, HasNoUnit, HasUnit, IsRun, text_of, Told, Untold, Reported, Unreported, Shown, Unshown, Judged, Accepts, Refuses, Unjudged, Read, Failed, Larger, NoRoom, All, Answered, NoCommand, Commanded}
+use Rattle.clinda.specs.Top.{Says, WordsClause, ReadClause, TooLargeClause, JudgesSource, SourceClause, Writes, WrittenClause, IsSource, RunClause, TellsStuck, StuckClause, HaltedClause, ReadFaultClause, WriteFaultClause, IsText, OfWords, OfLarge, OfSource, OfRun, WritesFront, MemoryClause, Reports, ReportClause}
 use Rattle.clinda.proofs.Sayings.{said_status, said_kept, said_rose, said_front, said_whole}
 
 -- a command read a source of this length, all of it, and no read failed

@@ -1,27 +1,25 @@
 -- The report of a run of a small unit is good.
-use Rattle.std.proofs.Common.{◌≡◌, ◌≢◌, ℕ, zero, suc, ◌+◌, ◌<◌, ◌≤◌, Bool, true, false, cond, List, [], ◌∷◌, ◌++◌, length, Option, Some, None, refl, sym, ap, subst, ◌∙◌, arith, inl, inr, zero-add, append-nil, nat_lt}
-use Rattle.std.specs.Prelude.{map, pos, Contains, ◌==◌}
+use Rattle.std.proofs.Common.{◌≡◌, ℕ, zero, suc, ◌+◌, ◌<◌, ◌≤◌, Bool, true, false, cond, List, [], ◌∷◌, length, Some, None, refl, sym, ap, subst, ◌∙◌, arith, inl, zero-add, append-nil, nat_lt}
+use Rattle.std.specs.Prelude.{map, Contains}
 use Rattle.std.specs.List.{AllByRecursion, range_with_len}
-use Rattle.cl_value.specs.Acts.{acts_of, names_made}
-use Rattle.cl_value.specs.Plain.{PlainStart, Main, PlainReply, Done, Got, Miss, PlainAct, PlainEnd, Ended, Trapped, NoThread, HistoryFull, NoMemory, Stopped, Waiting, PlainReport, PlainHistory, PlainRun}
-use Rattle.cl_value.specs.Replay.{Oldest, first_match}
+use Rattle.cl_value.specs.Acts.{names_made}
+use Rattle.cl_value.specs.Plain.{PlainReply, Done, Got, Miss, PlainAct, PlainEnd, Ended, Trapped, NoThread, HistoryFull, NoMemory, Stopped, Waiting, PlainHistory}
+use Rattle.cl_value.specs.Replay.{Oldest}
 use Rattle.cl_value.specs.Tickets.{NumberedFrom, placed, in_order, acts_in, by_ticket}
 use Rattle.cl_value.specs.Matching.{matches}
 use Rattle.std.proofs.lemmas.List.FromFn.{length-range_with_len, get_or-range_with_len}
-use Rattle.cl_value.specs.declared.value.Value.TheVariants as values
-use Rattle.cl_model.specs.Bag.{NoneMatches}
-use Rattle.cl_model.specs.Demand.{Demand, Outcome, Wants, Finishes, Traps, Misfit}
-use Rattle.cl_model.specs.Machine.{Legal, Process, State, after, demand_of}
+use Rattle.cl_model.specs.Demand.{Demand, Finishes, Misfit}
+use Rattle.cl_model.specs.Machine.{Legal, Process, after, demand_of}
 use Rattle.cl_model.specs.Ends.{Stuck, GoesOn, is_over, Waits}
-use Rattle.cl_model.specs.Good.{RunKind, Turns, GoodReport, EndAgrees, OutputAgrees, IsUnfinished, HistoriesAre, WithoutFailure, AllEnded, SomeWait, WithFailure, EndsAgree, some_failure, GoodRun}
+use Rattle.cl_model.specs.Good.{Turns, GoodReport, EndAgrees, OutputAgrees, HistoriesAre, AllEnded, SomeWait, WithFailure, EndsAgree, some_failure, GoodRun}
 use Rattle.cl_model.specs.Small.{PlainItem, Declare, DoOut, DoIn, operations_in}
 use Rattle.cl_model.specs.SmallMeaning.{Variables, zeros, one_set, silent, all_received, texts_of, slot_of, small_demands, small_sets, demand_from}
 use Rattle.cl_model.proofs.Bags.{none_found}
 use Rattle.cl_model.proofs.Histories.{by_ticket_one}
-use Rattle.cl_model.proofs.Alone.{replies_in, IsOwn, IsAlone, main_after, alone, acts_of_own, names_of_own}
+use Rattle.cl_model.proofs.Alone.{replies_in, IsOwn, main_after, alone, acts_of_own, names_of_own}
 use Rattle.clinda.specs.Moment.{Moment}
-use Rattle.clinda.specs.Standing.{one_history, Stands, StandsAt, WaitsAt, report_of, run_of, status_at}
-use Rattle.clinda.proofs.Standing.{counts, outcome_now, demand_now}
+use Rattle.clinda.specs.Standing.{one_history, Stands, StandsAt, WaitsAt, report_of, run_of}
+use Rattle.clinda.proofs.Standing.{counts, outcome_now}
 
 -- nothing is printed
 silent_from : (texts : List (List ℕ)) (variables : Variables) (site : ℕ) (items : List PlainItem) (replies : List PlainReply) → (demand_from texts variables site items replies).output ≡ []

@@ -1,5 +1,5 @@
 -- From what was said to what became of a call.
-use Rattle.std.proofs.Common.{◌≡◌, ◌≢◌, ℕ, ◌+◌, ◌<◌, ◌≤◌, List, [], length, take, Option, Some, None, refl, sym, ap, subst, ◌∙◌, arith, inl, inr, Err, take_all}
+use Rattle.std.proofs.Common.{◌≡◌, ◌≢◌, ℕ, ◌≤◌, List, length, take, Option, sym, subst, ◌∙◌, arith, inl, inr, Err, take_all}
 use Rattle.std.specs.Prelude.{Result, ◌⊎◌}
 use Rattle.cl_value.specs.Plain.{PlainRun}
 use Rattle.cl_model.specs.Refusals.{not_built}

@@ -1,24 +1,21 @@
 -- A run of a small unit goes on item by item, and its report is good.
-use Rattle.std.proofs.Common.{◌≡◌, ◌≢◌, ℕ, ◌+◌, ◌<◌, ◌≤◌, Bool, true, false, cond, List, [], ◌∷◌, ◌++◌, length, Option, Some, None, refl, sym, ap, subst, ◌∙◌, arith, append-nil, append_assoc}
+use Rattle.std.proofs.Common.{◌≡◌, ℕ, ◌+◌, ◌<◌, ◌≤◌, true, false, List, [], ◌∷◌, ◌++◌, length, Some, refl, sym, ap, subst, ◌∙◌, arith, append-nil, append_assoc}
 use Rattle.std.specs.Prelude.{map, option_to_list, nat_le, ◌*◌, ◌&&◌}
 use Rattle.std.proofs.lemmas.Bool.{leb-true}
 use Rattle.std.proofs.lemmas.List.{length_push}
 use Rattle.std.specs.List.{AllByRecursion}
 use Rattle.cl_value.specs.Acts.{reply_of, is_eval}
-use Rattle.cl_value.specs.Matching.{matches}
-use Rattle.cl_value.specs.Plain.{PlainStart, Main, PlainReply, Done, Got, PlainAct, PlainWhat, DidOut, DidIn, PlainRequest, Out, In}
-use Rattle.cl_value.specs.Replay.{replay, replay_from, replayed, first_match, without_first, found, TakesOldest}
+use Rattle.cl_value.specs.Plain.{Main, PlainReply, Done, Got, PlainAct, PlainWhat, DidOut, DidIn}
+use Rattle.cl_value.specs.Replay.{without_first, found}
 use Rattle.cl_value.specs.declared.value.Value.{Value}
-use Rattle.cl_value.specs.declared.template.Slot.{Slot}
-use Rattle.cl_model.specs.Bag.{Holds, NoneMatches}
-use Rattle.cl_model.specs.Demand.{Demand, Outcome, Wants}
+use Rattle.cl_model.specs.Demand.{Demand}
 use Rattle.cl_model.specs.Machine.{MayCome, after, is_land}
 use Rattle.cl_model.specs.Small.{PlainPiece, PlainItem, Declare, DoOut, DoIn, operations_in, keeps_rules, are_new, all_may_ask, all_may_give, is_some_up_to}
 use Rattle.cl_model.specs.SmallMeaning.{Variables, texts_of, value_of, slot_of, all_received, zeros, demand_from, small_demands}
 use Rattle.cl_model.proofs.Matches.{both, found_matches}
-use Rattle.cl_model.proofs.Bags.{Counts, counts_at_first, counts_from, holds_found, none_found}
+use Rattle.cl_model.proofs.Bags.{Counts, counts_at_first, counts_from, holds_found}
 use Rattle.cl_model.proofs.Histories.{legal_push, legal_nil, replay_push, oldest_push}
-use Rattle.cl_model.proofs.Alone.{replies_in, IsOwn, IsAlone, main_after, alone, replies_push, own_push}
+use Rattle.cl_model.proofs.Alone.{replies_in, IsOwn, main_after, alone, replies_push, own_push}
 use Rattle.clinda.specs.Moment.{Moment, beginning, next_act, after_act, after_out, AfterIn}
 use Rattle.clinda.specs.Standing.{Stands, WaitsAt, Performed, Blocked, IsSound, HasPieces}
 use Rattle.clinda.specs.Tables.{fields_in}

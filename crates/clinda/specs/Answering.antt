@@ -1,5 +1,5 @@
 -- All ways in which a call of the top can go. (This project.)
-use Rattle.std.specs.Prelude.{ℕ, ◌≡◌, ◌≤◌, ◌<◌, List, length, Option, Some, None}
+use Rattle.std.specs.Prelude.{ℕ, ◌≡◌, ◌≤◌, List, length, Option, Some, None}
 use Rattle.cl_value.specs.Plain.{PlainRun}
 use Rattle.cl_value.specs.Tickets.{by_ticket}
 use Rattle.cl_value.specs.Text.{run_text}

@@ -1,9 +1,8 @@
 -- Where a run of a small unit stands, and how it ends. (This project.)
 use Rattle.std.specs.Prelude.{ℕ, zero, suc, ◌+◌, ◌≡◌, ◌<◌, ◌≤◌, List, [], ◌∷◌, ◌++◌, length, map, None, pos}
 use Rattle.std.specs.List.{AllByRecursion}
-use Rattle.cl_value.specs.Plain.{PlainStart, Main, PlainReply, PlainAct, PlainEnd, Ended, Waiting, NoMemory, PlainReport, PlainHistory, PlainRun}
+use Rattle.cl_value.specs.Plain.{Main, PlainReply, PlainAct, PlainEnd, Ended, Waiting, NoMemory, PlainReport, PlainHistory, PlainRun}
 use Rattle.cl_value.specs.Replay.{replay, first_match, Oldest}
-use Rattle.cl_value.specs.declared.value.Value.{Value}
 use Rattle.cl_value.specs.declared.value.Value.TheVariants as values
 use Rattle.cl_model.proofs.Alone.{replies_in, IsOwn}
 use Rattle.cl_model.specs.Machine.{Legal}

@@ -1,7 +1,7 @@
 -- Tables of texts. (This project.)
 use Rattle.std.specs.Prelude.{ℕ, ◌+◌, List, [], ◌∷◌, map, length}
 use Rattle.cl_value.specs.Room.{Room}
-use Rattle.cl_model.specs.Small.{PlainPiece, PlainItem, Declare, DoOut, DoIn}
+use Rattle.cl_model.specs.Small.{PlainItem, Declare, DoOut, DoIn}
 
 -- the texts of a table, in order
 abbrev pub table : List (Room ℕ) → List (List ℕ)

@@ -1,5 +1,5 @@
 -- The clauses of the top call. (This project.)
-use Rattle.std.specs.Prelude.{ℕ, ◌+◌, ◌≡◌, ◌≢◌, ◌≤◌, ◌<◌, ◌⊎◌, false, List, [], length, take, drop, Option, Some, None, IfSome, IsSome, IsSomeAnd}
+use Rattle.std.specs.Prelude.{ℕ, ◌≡◌, ◌≢◌, ◌≤◌, ◌<◌, ◌⊎◌, false, List, length, take, drop, Option, Some, None, IfSome, IsSome, IsSomeAnd}
 use Rattle.cl_value.specs.Plain.{PlainRun}
 use Rattle.cl_value.specs.Tickets.{by_ticket}
 use Rattle.cl_outside.specs.Faults.{Rose, Quiet}
@@ -9,7 +9,7 @@ use Rattle.cl_model.specs.Ends.{Stuck}
 use Rattle.cl_model.specs.Good.{GoodRun, Turns, some_failure}
 use Rattle.cl_model.specs.Refusals.{words_refused, too_large, not_built}
 use Rattle.cl_model.specs.Small.{PlainItem, Accepted}
-use Rattle.cl_model.specs.SmallMeaning.{texts_of, small_demands, small_sets}
+use Rattle.cl_model.specs.SmallMeaning.{small_demands, small_sets}
 use Rattle.clinda.specs.Saying.{Said}
 use Rattle.clinda.specs.Answering.{Outside, HasNoUnit, text_of}
 

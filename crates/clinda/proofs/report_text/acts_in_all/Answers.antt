@@ -1,4 +1,4 @@
-use Rattle.std.proofs.Common.{◌≡◌, List, arith, length}
+use Rattle.std.proofs.Common.{List, arith, length}
 use Rattle.std.specs.Prelude.{map}
 use Rattle.std.proofs.lemmas.List.{at_drop_all}
 use Rattle.cl_value.specs.Tickets.{acts_in}

@@ -1,10 +1,9 @@
-use Rattle.std.proofs.Common.{◌≡◌, ◌≤◌, ◌+◌, ℕ, List, ◌∷◌, drop, arith, ap, ◌∙◌, sym, subst, Ok}
+use Rattle.std.proofs.Common.{◌≡◌, ◌≤◌, ◌+◌, ◌∷◌, drop, arith, ap, ◌∙◌, sym, subst, Ok}
 use Rattle.std.specs.Prelude.{map}
 use Rattle.std.specs.List.{AllByRecursion}
 use Rattle.std.proofs.lemmas.List.{at_drop_more}
-use Rattle.cl_model.specs.Small.{PlainItem, operations_in}
+use Rattle.cl_model.specs.Small.{operations_in}
 use Rattle.cl_model.specs.SmallViews.{plain_item}
-use Rattle.cl_model.specs.SmallMeaning as spec
 use Rattle.clinda.specs.Tables.{table}
 use Rattle.clinda.specs.Standing.{Stands, IsSound, Performed}
 use Rattle.clinda.proofs.Standing.{performs, performed_site}

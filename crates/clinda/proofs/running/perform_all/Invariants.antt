@@ -1,4 +1,4 @@
-use Rattle.std.proofs.Common.{◌≡◌, ◌≤◌, ◌+◌, ℕ, List, drop}
+use Rattle.std.proofs.Common.{◌≡◌, ◌≤◌, ◌+◌, List, drop}
 use Rattle.std.specs.Prelude.{map}
 use Rattle.std.specs.List.{AllByRecursion}
 use Rattle.cl_model.specs.Small.{PlainItem, operations_in}

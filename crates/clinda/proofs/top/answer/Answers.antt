@@ -1,4 +1,4 @@
-use Rattle.std.proofs.Common.{ap, None, ◌∙◌, refl, sym}
+use Rattle.std.proofs.Common.{ap, refl}
 use Rattle.std.specs.Prelude.{option_map}
 use Rattle.cl_value.specs.Views.{plain_run}
 use Rattle.cl_model.specs.Refusals.{words_refused}

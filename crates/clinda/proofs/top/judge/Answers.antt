@@ -1,4 +1,4 @@
-use Rattle.std.proofs.Common.{ap, None, ◌∙◌}
+use Rattle.std.proofs.Common.{ap}
 use Rattle.std.specs.Prelude.{option_map}
 use Rattle.cl_value.specs.Views.{plain_run}
 use Rattle.cl_model.specs.SmallViews.{plain_unit}

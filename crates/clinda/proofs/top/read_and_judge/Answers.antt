@@ -1,10 +1,10 @@
-use Rattle.std.proofs.Common.{ap, None, ◌∙◌, refl, subst, sym, ◌≡◌, ◌≤◌, length, Ok, Err}
+use Rattle.std.proofs.Common.{ap, ◌∙◌, refl, subst, sym, ◌≡◌, ◌≤◌, length, Err}
 use Rattle.std.specs.Prelude.{option_map}
 use Rattle.cl_value.specs.Views.{plain_run}
 use Rattle.cl_outside.specs.Streams.{TakesAll}
 use Rattle.cl_outside.specs.declared.reading.ReadEnd.TheVariants as read_ends
 use Rattle.clinda.specs.declared.top.TopEnd.{TopEnd}
-use Rattle.clinda.specs.Answering.{Read, Failed, Larger, NoRoom, All}
+use Rattle.clinda.specs.Answering.{Failed, Larger, NoRoom, All}
 use Rattle.clinda.proofs.Sayings.{left_count, resaid}
 use Rattle.cl_model.specs.Refusals.{too_large}
 use Rattle.clinda.proofs.top.read_and_judge.Goals as goal

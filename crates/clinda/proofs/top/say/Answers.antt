@@ -1,6 +1,6 @@
 use Rattle.std.proofs.Common.{refl}
 use Rattle.cl_outside.specs.Ends.{written_of}
-use Rattle.clinda.specs.Saying.{Said, Part}
+use Rattle.clinda.specs.Saying.{Part}
 use Rattle.clinda.proofs.top.say.Goals as goal
 
 pub returns-in-Err-Fault : goal.returns-in-Err-Fault
