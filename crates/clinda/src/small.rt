@@ -19,6 +19,7 @@ ghost use Rattle.clinda.specs.ReadingEnds.{LiesWithin};
 
 use crate::small::item::unit;
 use crate::small::stop::Stop;
+pub use crate::small::word::is_same;
 use cl_model::SmallUnit;
 use std::alloc::Global;
 

@@ -1,22 +1,15 @@
 ghost use Rattle.std.specs.Prelude.{◌≡◌, ◌+◌, ◌*◌, ◌^◌, ◌<◌, ◌≤◌, ◌∷◌, [], length, map, IfOk, OnOk, OnErr, pos};
 ghost use Rattle.cl_value.specs.Room.{Room};
-ghost use Rattle.cl_model.specs.Tokens.{same_bytes};
 ghost use Rattle.cl_model.specs.Small.{is_known};
 ghost use Rattle.cl_model.specs.SmallViews.{plain_piece, plain_item};
 ghost use Rattle.cl_model.specs.SmallMeaning.{text_number, with_text, with_texts, texts_from};
 ghost use Rattle.cl_model.specs.SmallMeaning as spec;
 ghost use Rattle.clinda.specs.Tables.{table, fields_in};
 
+use crate::small::is_same;
 use cl_model::{Item, Piece};
 use cl_value::{FieldType, Items, NoMemory, Slot, Template, Tuple, Value};
 use std::alloc::Global;
-
-// Whether two texts are the same bytes.
-fn same(a: &[u8], b: &[u8]) -> bool
-    ensures { result ≡ same_bytes a.now b.now }
-{
-    a == b
-}
 
 // The number of a text: its place in the table, or the table's length.
 fn number_of(texts: &[Items<u8>], bytes: &[u8]) -> usize
@@ -24,7 +17,7 @@ fn number_of(texts: &[Items<u8>], bytes: &[u8]) -> usize
     ensures bound { result ≤ length texts.now }
 {
     for (place, text) in texts.iter().enumerate() {
-        if same(bytes, text.as_slice()) {
+        if is_same(bytes, text.as_slice()) {
             return place;
         }
     }
@@ -52,7 +45,7 @@ fn has_text(texts: &[Items<u8>], bytes: &[u8]) -> bool
     ensures { result ≡ is_known (table texts.now) bytes.now }
 {
     for text in texts {
-        if same(bytes, text.as_slice()) {
+        if is_same(bytes, text.as_slice()) {
             return true;
         }
     }

@@ -164,6 +164,60 @@ fn faults_are_told(rt: HostRuntime) -> Result<(), Fail> {
 }
 
 #[test]
+fn each_read_fails_in_turn(rt: HostRuntime) -> Result<(), Fail> {
+    let source = b"real_main(){out(\"x\");in(\"x\");}";
+    // A read for each byte, and the one that finds the end.
+    for number in 1..32 {
+        let failing = [number];
+        let call = Call {
+            read_piece: 1,
+            failing_read: &failing,
+            ..seq(source)
+        };
+        let told = tell(&rt, rt.alloc(), &call)?;
+        assert_eq!(rt; told.status, 4, "read {number} fails");
+        assert_eq!(rt;
+            told.text.len(),
+            0,
+            "what is written where read {number} fails"
+        );
+        assert!(rt; !told.reported);
+    }
+    let call = Call {
+        read_piece: 1,
+        failing_read: &[33],
+        ..seq(source)
+    };
+    let text = "process 0 ended (0) acts 2\nstatus 0 processes 1 acts 2\n";
+    check(&rt, rt.alloc(), &call, text, 0)
+}
+
+#[test]
+fn each_write_fails_in_turn(rt: HostRuntime) -> Result<(), Fail> {
+    let source = b"real_main(){out(\"x\");in(\"x\");}";
+    let text = b"process 0 ended (0) acts 2\nstatus 0 processes 1 acts 2\n";
+    for number in 1u8..12 {
+        let failing = [u64::from(number)];
+        let call = Call {
+            write_piece: 5,
+            failing_write: &failing,
+            ..seq(source)
+        };
+        let told = tell(&rt, rt.alloc(), &call)?;
+        let written = 5 * (usize::from(number) - 1);
+        assert!(rt; written < text.len());
+        assert_eq!(rt; told.status, 5, "write {number} fails");
+        assert_eq!(rt;
+            told.text.as_slice(),
+            &text[..written],
+            "what is written before write {number}"
+        );
+        assert!(rt; told.reported);
+    }
+    Ok(())
+}
+
+#[test]
 fn the_limit_counts_in_bytes(rt: HostRuntime) -> Result<(), Fail> {
     let mut source = Vec::from_slice(rt.alloc(), b"real_main(){}")?;
     for _ in 13..1_048_576 {
