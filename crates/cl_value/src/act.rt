@@ -1,17 +1,27 @@
 use crate::{Live, NoMemory, Template, Tuple};
 use std::alloc::Global;
 
-/// A tuple operation that was done, with what it took, read or missed.
+/// A tuple operation that was done (Gelernter 1985; Carriero and Gelernter, "How to Write Parallel
+/// Programs"), with what it took, read or missed.
 #[derive(Drop)]
 pub enum What {
+    /// Added the tuple.
     Out(Tuple),
+    /// Took the tuple, which the template matches.
     In(Template, Tuple),
+    /// Read the tuple, which the template matches, and left it.
     Rd(Template, Tuple),
+    /// As `In`, by an `inp`.
     InpHit(Template, Tuple),
+    /// An `inp` for which nothing matched.
     InpMiss(Template),
+    /// As `Rd`, by an `rdp`.
     RdpHit(Template, Tuple),
+    /// An `rdp` for which nothing matched.
     RdpMiss(Template),
+    /// Made a process that computes the live tuple.
     Eval(Live),
+    /// Added the tuple that a process has computed from its live tuple, as its last act.
     Land(Tuple),
 }
 
@@ -19,7 +29,7 @@ impl What {
     ghost use Rattle.std.specs.Prelude.{◌≡◌, IfOk};
     ghost use Rattle.cl_value.specs.Views.{plain_what};
 
-    /// An equal operation.
+    /// An equal operation. `NoMemory` comes where the allocator refused its room.
     pub fn copy(&self, alloc: Global) -> Result<What, NoMemory>
         ensures { IfOk result (λ what. plain_what what ≡ plain_what self.now) }
     {
@@ -50,6 +60,7 @@ pub struct Act {
     pub proc: u64,
     /// The number of the operation in the text, from 0. A landing has the site of its `eval`.
     pub site: u32,
+    /// The operation.
     pub what: What,
 }
 
@@ -57,7 +68,7 @@ impl Act {
     ghost use Rattle.std.specs.Prelude.{◌≡◌, IfOk};
     ghost use Rattle.cl_value.specs.Views.{plain_act};
 
-    /// An equal act.
+    /// An equal act. `NoMemory` comes where the allocator refused its room.
     pub fn copy(&self, alloc: Global) -> Result<Act, NoMemory>
         ensures { IfOk result (λ act. plain_act act ≡ plain_act self.now) }
     {

@@ -1,7 +1,7 @@
 use std::alloc::{AllocError, Global};
 use std::marker::Model;
 
-/// A growth was refused by the allocator.
+/// Want of memory: a growth was refused by the allocator.
 #[derive(Clone, Copy, Debug, PartialEq, Eq, Drop)]
 pub struct NoMemory;
 
@@ -27,7 +27,7 @@ impl<T> Model for Items<T> {
 }
 
 impl<T> Items<T> {
-    ghost use Rattle.std.specs.Prelude.{◌≡◌, ◌+◌, ◌<◌, ◌≤◌, [], ◌∷◌, ◌++◌, length, slice_get, OnOk, OnErr, Some};
+    ghost use Rattle.std.specs.Prelude.{◌≡◌, ◌+◌, ◌<◌, ◌≤◌, [], ◌∷◌, ◌++◌, length, slice_get, IsOk, OnOk, OnErr, Some};
     ghost use Rattle.cl_value.specs.Room.{Room};
 
     /// A list of nothing, with no room. It keeps the allocator for its later growths.
@@ -41,10 +41,14 @@ impl<T> Items<T> {
     }
 
     /// Makes room for `count` more items. The items stay, whatever the answer.
+    ///
+    /// `NoMemory` comes only where there was room for fewer, and then the room stays too.
     pub fn reserve(&mut self, count: usize) -> Result<(), NoMemory>
         ensures items { self.new.items ≡ self.old.items }
         ensures spare { OnOk result (count ≤ self.new.spare) }
         ensures kept { self.old.spare ≤ self.new.spare }
+        ensures succeeds { count ≤ self.old.spare → IsOk result }
+        ensures refused { OnErr result (self.new.spare ≡ self.old.spare) }
     {
         match self.items.reserve(count) {
             Ok(()) => Ok(()),
@@ -52,7 +56,7 @@ impl<T> Items<T> {
         }
     }
 
-    /// Puts the value last, into room that was made before.
+    /// Puts the value last, into room that was made before. It takes no memory.
     pub fn push(&mut self, value: T)
         requires { 0 < self.old.spare }
         ensures items { self.new.items ≡ self.old.items ++ value ∷ [] }
@@ -88,7 +92,7 @@ impl<T: Drop> Items<T> {
     ghost use Rattle.std.specs.Prelude.{◌≡◌, ◌+◌, ◌<◌, [], length, slice_get, remove, Some};
     ghost use Rattle.cl_value.specs.Room.{Room};
 
-    /// Lets all items go and keeps their room.
+    /// Lets all items go and keeps their room. It takes no memory.
     pub fn clear(&mut self)
         ensures items { self.new.items ≡ [] }
         ensures spare { self.new.spare ≡ self.old.spare + length self.old.items }
@@ -111,14 +115,14 @@ impl<T: Copy> Items<T> {
     ghost use Rattle.std.specs.Prelude.{◌≡◌, IfOk};
     ghost use Rattle.cl_value.specs.Room.{Room};
 
-    /// A list of the same items.
+    /// A list of the same items. `NoMemory` comes where the allocator refused their room.
     pub fn copy(&self, alloc: Global) -> Result<Items<T>, NoMemory>
         ensures { IfOk result (λ it. it.items ≡ self.now.items) }
     {
         Items::from_slice(alloc, self.items.as_slice())
     }
 
-    /// A list of these items.
+    /// A list of these items. `NoMemory` comes where the allocator refused their room.
     pub fn from_slice(alloc: Global, items: &[T]) -> Result<Items<T>, NoMemory>
         ensures { IfOk result (λ it. it.items ≡ items.now) }
     {

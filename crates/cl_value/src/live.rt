@@ -2,7 +2,7 @@ use crate::{FieldType, Items, NoMemory, Value};
 use std::alloc::Global;
 use std::marker::Model;
 
-/// A field of a live tuple.
+/// A field of a live tuple (Gelernter 1985; which fields the new process computes: this project).
 #[derive(Drop)]
 pub enum LiveField {
     /// Evaluated by the process that makes the live tuple.
@@ -22,7 +22,7 @@ impl LiveField {
     ghost use Rattle.std.specs.Prelude.{◌≡◌, IfOk};
     ghost use Rattle.cl_value.specs.LiveViews.{plain_part};
 
-    /// An equal field.
+    /// An equal field. `NoMemory` comes where the allocator refused its room.
     pub fn copy(&self, alloc: Global) -> Result<LiveField, NoMemory>
         ensures { IfOk result (λ f. plain_part f ≡ plain_part self.now) }
     {
@@ -77,7 +77,7 @@ impl Live {
         Live { fields }
     }
 
-    /// The fields again, with their room.
+    /// The fields again, with their room. It takes no memory.
     pub fn into_items(self) -> Items<LiveField>
         ensures same { result ≡ self }
         ensures some { 0 < length self.items }
@@ -97,6 +97,14 @@ impl Live {
         self.fields.len()
     }
 
+    /// The field at a place, counted from 0.
+    pub fn field(&self, i: usize) -> &LiveField
+        requires { i < length self.now.items }
+        ensures { slice_get self.now.items i ≡ Some result.now }
+    {
+        self.fields.at(i)
+    }
+
     /// The fields in order.
     pub fn fields(&self) -> &[LiveField]
         ensures { result.now ≡ self.now.items }
@@ -104,7 +112,7 @@ impl Live {
         self.fields.as_slice()
     }
 
-    /// A live tuple of equal fields.
+    /// A live tuple of equal fields. `NoMemory` comes where the allocator refused its room.
     pub fn copy(&self, alloc: Global) -> Result<Live, NoMemory>
         ensures { IfOk result (λ t. plain_live t ≡ plain_live self.now) }
     {

@@ -6,9 +6,11 @@ use crate::{Act, Items, Live, Tuple};
 pub enum Trap {
     /// A result that doesn't fit its type.
     Overflow,
+    /// A quotient or a remainder by 0.
     DivideByZero,
+    /// An index outside its array.
     IndexRange,
-    /// More ticks than the limit.
+    /// More ticks than `Limits::steps`.
     StepLimit,
     /// More than 256 active functions.
     CallDepth,
@@ -25,6 +27,7 @@ pub enum Trap {
 pub enum End {
     /// Its meaning finished with these field values; for process 0 with its one result.
     Ended(Tuple),
+    /// Its meaning can't go on.
     Trapped(Trap),
     /// No thread could be started for it, and it has no acts.
     NoThread,
@@ -33,7 +36,10 @@ pub enum End {
     /// It met want of memory.
     NoMemory,
     /// The process `by` halted the run before.
-    Stopped { by: u64 },
+    Stopped {
+        /// The name of that process.
+        by: u64,
+    },
     /// It waits for a tuple that no process can add any more.
     Waiting,
 }
@@ -45,7 +51,14 @@ pub enum Start {
     Main,
     /// Any other process computes the live tuple of the `eval` at this site. Process 0 has depth 0, and a
     /// process one more than its maker.
-    Live { site: u32, live: Live, depth: u32 },
+    Live {
+        /// The number of the `eval` in the text, from 0.
+        site: u32,
+        /// The live tuple.
+        live: Live,
+        /// How many `eval`s led to it, from 1 to 64.
+        depth: u32,
+    },
 }
 
 /// The limits that a command may set.
@@ -80,9 +93,11 @@ pub enum Reply {
 pub struct Report {
     /// 0, or the ticket of the `eval` that made it.
     pub name: u64,
+    /// What it began with.
     pub start: Start,
     /// Its acts, by ticket.
     pub acts: Items<Act>,
+    /// How it ended.
     pub end: End,
     /// The bytes that it printed.
     pub output: Items<u8>,
@@ -95,6 +110,7 @@ pub struct Report {
 pub struct History {
     /// The number of the set, from 0.
     pub set: u32,
+    /// Each act on the set, in the order in which they were done.
     pub acts: Items<Act>,
 }
 

@@ -25,7 +25,7 @@ impl Ask {
     ghost use Rattle.std.specs.Prelude.{◌≡◌, IfOk};
     ghost use Rattle.cl_value.specs.Views.{plain_ask};
 
-    /// An equal operation.
+    /// An equal operation. `NoMemory` comes where the allocator refused its room.
     pub fn copy(&self, alloc: Global) -> Result<Ask, NoMemory>
         ensures { IfOk result (λ ask. plain_ask ask ≡ plain_ask self.now) }
     {
@@ -46,6 +46,7 @@ impl Ask {
 pub struct Request {
     /// The number of the operation in the text, from 0. A landing has the site of its `eval`.
     pub site: u32,
+    /// The operation.
     pub ask: Ask,
 }
 
@@ -53,7 +54,7 @@ impl Request {
     ghost use Rattle.std.specs.Prelude.{◌≡◌, IfOk};
     ghost use Rattle.cl_value.specs.Views.{plain_request};
 
-    /// An equal request.
+    /// An equal request. `NoMemory` comes where the allocator refused its room.
     pub fn copy(&self, alloc: Global) -> Result<Request, NoMemory>
         ensures { IfOk result (λ request. plain_request request ≡ plain_request self.now) }
     {

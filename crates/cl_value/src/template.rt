@@ -8,7 +8,7 @@ use std::sync::ledger::Ledger;
 pub enum Slot {
     /// Matches this value alone.
     Actual(Value),
-    /// Matches each value of its type, and receives it.
+    /// Matches each value of its type, and receives it. No source has one of text.
     Formal(FieldType),
 }
 
@@ -59,7 +59,7 @@ impl Template {
         Template { slots }
     }
 
-    /// The slots again, with their room.
+    /// The slots again, with their room. It takes no memory.
     pub fn into_items(self) -> Items<Slot>
         ensures same { result ≡ self }
         ensures some { 0 < length self.items }
@@ -105,7 +105,7 @@ impl Template {
         self.slots.as_slice()
     }
 
-    /// A template of the same slots.
+    /// A template of the same slots. `NoMemory` comes where the allocator refused its room.
     pub fn copy(&self, alloc: Global) -> Result<Template, NoMemory>
         ensures { IfOk result (λ t. t.items ≡ self.now.items) }
     {

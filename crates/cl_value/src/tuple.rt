@@ -37,7 +37,7 @@ impl Tuple {
         Tuple { fields }
     }
 
-    /// The fields again, with their room.
+    /// The fields again, with their room. It takes no memory.
     pub fn into_items(self) -> Items<Value>
         ensures same { result ≡ self }
         ensures some { 0 < length self.items }
@@ -47,7 +47,8 @@ impl Tuple {
         fields
     }
 
-    /// A buffer with room for 16 fields, which holds `(Int(0))` at first.
+    /// A buffer with room for 16 fields, which holds `(Int(0))` at first. `NoMemory` comes where the
+    /// allocator refused that room.
     pub fn with_room(alloc: Global) -> Result<Tuple, NoMemory>
         ensures fields { IfOk result (λ t. t.items ≡ Value.Int (pos 0) ∷ []) }
         ensures room { IfOk result (HasRoom 16) }
@@ -115,7 +116,7 @@ impl Tuple {
         self.fields.as_slice()
     }
 
-    /// A tuple of the same fields.
+    /// A tuple of the same fields. `NoMemory` comes where the allocator refused its room.
     pub fn copy(&self, alloc: Global) -> Result<Tuple, NoMemory>
         ensures { IfOk result (λ t. t.items ≡ self.now.items) }
     {

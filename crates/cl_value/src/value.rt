@@ -1,4 +1,4 @@
-/// The type of a field of a tuple.
+/// The type of a field of a tuple. (Sizes and signs are this project's choice among those that C allows.)
 #[derive(Clone, Copy, Debug, PartialEq, Eq)]
 pub enum FieldType {
     /// `int`: 32 bits, signed.
@@ -14,8 +14,11 @@ pub enum FieldType {
 /// The value of a field of a tuple.
 #[derive(Clone, Copy, Debug, PartialEq, Eq)]
 pub enum Value {
+    /// An `int`.
     Int(i32),
+    /// A `long`.
     Long(i64),
+    /// A `char`.
     Char(u8),
     /// The place of the literal among the distinct string literals that stand as fields, in order of
     /// first use, from 0. Two texts are equal exactly where their numbers are.
