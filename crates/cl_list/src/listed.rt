@@ -28,7 +28,7 @@ impl Model for Listed {
 }
 
 impl Listed {
-    ghost use Rattle.std.specs.Prelude.{◌≡◌, ◌+◌, ◌<◌, ◌≤◌, [], ◌∷◌, ◌++◌, true, false, length, remove, is_some, IsTrue, IsNone, OnSome, OnOk, Some};
+    ghost use Rattle.std.specs.Prelude.{◌≡◌, ◌+◌, ◌<◌, ◌≤◌, [], ◌∷◌, ◌++◌, true, false, length, remove, is_some, IsTrue, IsNone, IsOk, OnSome, OnOk, OnErr, Some};
     ghost use Rattle.cl_value.specs.Room.{HasRoom, capacity_of};
     ghost use Rattle.cl_value.specs.Replay.{first_match, found, without_first};
     ghost use Rattle.cl_list.specs.Listing.{Listing};
@@ -45,9 +45,13 @@ impl Listed {
     }
 
     /// Makes room for one more tuple, all that the next `add` needs. The tuples stay, whatever the answer.
+    ///
+    /// `NoMemory` comes only where that room was missing, and then it still is.
     pub fn reserve(&mut self, _tuple: &Tuple) -> Result<(), NoMemory>
         ensures tuples { self.new.tuples ≡ self.old.tuples }
         ensures room { OnOk result (IsTrue self.new.room) }
+        ensures succeeds { IsTrue self.old.room → IsOk result }
+        ensures refused { OnErr result (self.new ≡ self.old) }
     {
         self.tuples.reserve(1)?;
         if self.buffer.is_none() {
@@ -71,7 +75,9 @@ impl Listed {
         }
     }
 
-    /// Takes out the first tuple that matches, and puts its fields into `into`. It takes no memory.
+    /// Takes out the first tuple that matches, and puts its fields into `into`. False comes exactly where
+    /// none matches, and then list and `into` stay. It takes no memory, and leaves room for one tuple where
+    /// it takes one.
     #[tactic(auto, using(crate::proofs::Matches::finds))]
     pub fn take<L: Ledger>(
         &mut self,
@@ -84,7 +90,8 @@ impl Listed {
         ensures taken { result ≡ true →
             (found self.old.tuples template.now.items ≡ Some into.new.items)
             × (self.new.tuples ≡ without_first self.old.tuples template.now.items) }
-        ensures unchanged { result ≡ false → (self.new.tuples ≡ self.old.tuples) × (into.new ≡ into.old) }
+        ensures unchanged { result ≡ false → (self.new ≡ self.old) × (into.new ≡ into.old) }
+        ensures ready { result ≡ true → IsTrue self.new.room }
         ensures room { capacity_of into.new ≡ capacity_of into.old }
         ensures cost { steps.new ≤ steps.old + length self.old.tuples }
         ensures later { steps.old ≤ steps.new }
@@ -98,7 +105,8 @@ impl Listed {
         }
     }
 
-    /// Puts the fields of the first tuple that matches into `into`. It takes no memory.
+    /// Puts the fields of the first tuple that matches into `into`, and leaves it in the list. False comes
+    /// exactly where none matches, and then `into` stays. It takes no memory.
     #[tactic(auto, using(crate::proofs::Matches::finds))]
     pub fn find<L: Ledger>(
         &self,
@@ -149,7 +157,8 @@ impl Listed {
     // Takes out the tuple at a place, and keeps its buffer for the next `add`.
     fn remove(&mut self, place: usize)
         requires { place < length self.old.tuples }
-        ensures { self.new.tuples ≡ remove self.old.tuples place }
+        ensures tuples { self.new.tuples ≡ remove self.old.tuples place }
+        ensures ready { IsTrue self.new.room }
     {
         self.buffer = Some(self.tuples.remove(place));
     }
