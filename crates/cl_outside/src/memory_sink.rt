@@ -93,7 +93,7 @@ impl Sink for MemSink {
     ghost faults = { λ s. s.faults };
 
     /// Writes as many bytes as a call may take and the room holds. It fails exactly where its number is
-    /// listed or the room is full.
+    /// listed or the room is full. It takes no memory.
     fn write(&mut self, bytes: &[u8]) -> Result<usize, Failed>
         requires { 0 < length bytes.now }
 

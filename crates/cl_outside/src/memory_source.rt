@@ -32,7 +32,7 @@ impl MemSource {
     ghost use Rattle.std.specs.Prelude.{◌≡◌, ◌<◌};
     ghost use Rattle.cl_outside.specs.Memory.{Input};
 
-    /// A source of these bytes. A call gives at most `piece` of them, and the calls with the listed numbers,
+    /// A source of these bytes, which takes no memory. A call gives at most `piece` of them, and the calls with the listed numbers,
     /// counted from 1, fail. The last number of 64 bits stands for all calls from that one on.
     pub fn new(bytes: Vec<u8>, piece: usize, failing: Vec<u64>) -> MemSource
         requires { 0 < piece }
@@ -68,7 +68,7 @@ impl MemSource {
 }
 
 impl Source for MemSource {
-    ghost use Rattle.std.specs.Prelude.{◌≡◌, ◌<◌, ◌≤◌, ◌↔◌, length, min, IsErr, IfOk, OnErr, Some};
+    ghost use Rattle.std.specs.Prelude.{◌≡◌, ◌<◌, ◌≤◌, ◌↔◌, ◌++◌, length, take, drop, min, IsErr, IfOk, OnErr, Some};
     ghost use Rattle.cl_outside.specs.Faults.{HasCause, raised};
     ghost use Rattle.cl_outside.specs.Streams.{Takes, EndsAt};
     ghost use Rattle.cl_outside.specs.Memory.{Input, ReadFails};
@@ -78,7 +78,7 @@ impl Source for MemSource {
     ghost faults = { λ s. s.faults };
 
     /// Reads as many bytes as a call may give, the buffer holds and are left. It fails exactly where its
-    /// number is listed.
+    /// number is listed, and then the buffer stays. It takes no memory.
     fn read(&mut self, into: &mut [u8]) -> Result<usize, Failed>
         requires { 0 < length into.old }
 
@@ -90,6 +90,8 @@ impl Source for MemSource {
 
         ensures fails { IsErr result ↔ ReadFails self.old }
         ensures count { IfOk result (λ n. n ≡ min (min self.old.piece (length into.old)) (length self.old.left)) }
+        ensures buffer { IfOk result (λ n. into.new ≡ take n self.old.left ++ drop n into.old) }
+        ensures unread { OnErr result (into.new ≡ into.old) }
         ensures piece { self.new.piece ≡ self.old.piece }
         ensures failing { self.new.failing ≡ self.old.failing }
         ensures calls { self.new.calls ≡ raised self.old.calls }

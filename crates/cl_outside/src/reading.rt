@@ -6,11 +6,11 @@ use std::alloc::Global;
 /// Why not all was read.
 #[derive(Clone, Copy, Debug, PartialEq, Eq)]
 pub enum ReadEnd {
-    /// A read failed.
+    /// A read failed. At most `max` bytes are lost.
     Fault,
-    /// There are more bytes than the limit.
+    /// There are more bytes than the limit. One more than the limit are lost.
     TooLarge,
-    /// A growth was refused by the allocator.
+    /// A growth was refused by the allocator. At most `max` bytes are lost.
     NoMemory,
 }
 

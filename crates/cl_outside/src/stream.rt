@@ -2,7 +2,7 @@
 #[derive(Clone, Copy, Debug, PartialEq, Eq, Drop)]
 pub struct Failed;
 
-/// Where bytes come from, some at a time.
+/// Where bytes come from, some at a time. (This project.)
 pub trait Source {
     ghost use Rattle.std.specs.Prelude.{◌≡◌, ◌<◌, ◌≤◌, ℕ, List, Option, length, IfOk, OnErr};
     ghost use Rattle.cl_outside.specs.Faults.{HasCause};
@@ -17,7 +17,8 @@ pub trait Source {
     /// Reads some bytes to the front of the buffer, and says how many: 0 exactly at the end.
     ///
     /// `Failed` comes only where the count of faults rose, and then no byte is lost. The same call may be
-    /// made again.
+    /// made again. Nothing is said of the rest of the buffer, nor of the whole of it at `Failed`: a reader
+    /// of the library may leave anything there.
     fn read(&mut self, into: &mut [u8]) -> Result<usize, Failed>
         requires { 0 < length into.old }
         ensures within { IfOk result (λ n. n ≤ length into.old) }
@@ -27,7 +28,7 @@ pub trait Source {
         ensures cause { HasCause (faults self.old) (faults self.new) result };
 }
 
-/// Where bytes go, some at a time.
+/// Where bytes go, some at a time. (This project.)
 pub trait Sink {
     ghost use Rattle.std.specs.Prelude.{◌≡◌, ◌<◌, ◌≤◌, ℕ, List, Option, length, take, IfOk, OnErr};
     ghost use Rattle.cl_outside.specs.Faults.{HasCause};

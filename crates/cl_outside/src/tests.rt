@@ -5,15 +5,24 @@ use std::test::Fail;
 
 const TEXT: &[u8; 16] = b"tuples and more.";
 
+// The same bytes, in pieces of any size: the text up to its length as a limit, and up to a lower one; and
+// more bytes than one read takes.
 #[test]
-fn pieces_make_the_whole(rt: HostRuntime) -> Result<(), Fail> {
+fn no_piece_changes_what_is_read(rt: HostRuntime) -> Result<(), Fail> {
     let alloc = rt.alloc();
-    for piece in [1, 7] {
+    for piece in [1, 3, 16, 5000] {
         let mut src = MemSource::new(TEXT.to_vec(alloc)?, piece, Vec::new(alloc));
-        let all = read_all(alloc, &mut src, 100)?;
+        let all = read_all(alloc, &mut src, 16)?;
         assert_eq!(rt; all.as_slice(), TEXT.as_slice(), "in pieces of {piece}");
         assert_eq!(rt; src.left().len(), 0);
         assert_eq!(rt; src.faults(), 0);
+        let mut src = MemSource::new(TEXT.to_vec(alloc)?, piece, Vec::new(alloc));
+        let end = read_all(alloc, &mut src, 14).err();
+        assert_eq!(rt; end, Some(ReadEnd::TooLarge), "in pieces of {piece}");
+        assert_eq!(rt; src.left(), b".".as_slice());
+        let mut src = MemSource::new(vec![in alloc; b'x'; 5000]?, piece, Vec::new(alloc));
+        let all = read_all(alloc, &mut src, 5000)?;
+        assert_eq!(rt; all.len(), 5000, "in pieces of {piece}");
     }
     Ok(())
 }
@@ -31,17 +40,24 @@ fn the_second_read_fails(rt: HostRuntime) -> Result<(), Fail> {
     Ok(())
 }
 
+// The same bytes, in pieces of any size: into room for all of them, and into less.
 #[test]
-fn the_limit_counts_in_bytes(rt: HostRuntime) -> Result<(), Fail> {
+fn no_piece_changes_what_is_written(rt: HostRuntime) -> Result<(), Fail> {
     let alloc = rt.alloc();
-    let mut src = MemSource::new(TEXT.to_vec(alloc)?, 7, Vec::new(alloc));
-    assert_eq!(rt; read_all(alloc, &mut src, 16)?.as_slice(), TEXT.as_slice());
-    let mut src = MemSource::new(TEXT.to_vec(alloc)?, 7, Vec::new(alloc));
-    assert_eq!(rt;
-        read_all(alloc, &mut src, 14).err(),
-        Some(ReadEnd::TooLarge)
-    );
-    assert_eq!(rt; src.left(), b".".as_slice());
+    for piece in [1, 3, 16, 5000] {
+        let mut sink = MemSink::new(alloc, 16, piece, Vec::new(alloc))?;
+        assert_eq!(rt; write_all(&mut sink, TEXT), Ok(()), "in pieces of {piece}");
+        assert_eq!(rt; sink.written(), TEXT.as_slice());
+        assert_eq!(rt; sink.faults(), 0);
+        let mut sink = MemSink::new(alloc, 8, piece, Vec::new(alloc))?;
+        let end = write_all(&mut sink, TEXT);
+        assert_eq!(rt;
+            end,
+            Err(WriteEnd::Fault { written: 8 }),
+            "in pieces of {piece}"
+        );
+        assert_eq!(rt; sink.written(), b"tuples a".as_slice());
+    }
     Ok(())
 }
 
@@ -55,16 +71,6 @@ fn the_third_write_fails(rt: HostRuntime) -> Result<(), Fail> {
     assert_eq!(rt; sink.faults(), 1);
     assert_eq!(rt; write_all(&mut sink, b" more."), Ok(()));
     assert_eq!(rt; sink.written(), TEXT.as_slice());
-    Ok(())
-}
-
-#[test]
-fn a_full_sink_fails(rt: HostRuntime) -> Result<(), Fail> {
-    let alloc = rt.alloc();
-    let mut sink = MemSink::new(alloc, 8, 5, Vec::new(alloc))?;
-    let end = write_all(&mut sink, TEXT);
-    assert_eq!(rt; end, Err(WriteEnd::Fault { written: 8 }));
-    assert_eq!(rt; sink.written(), b"tuples a".as_slice());
     Ok(())
 }
 
