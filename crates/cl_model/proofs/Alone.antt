@@ -5,19 +5,8 @@ use Rattle.std.specs.List.{AllByRecursion}
 use Rattle.std.proofs.lemmas.Bool.Decides.{Decides-eqb}
 use Rattle.cl_value.specs.Acts.{acts_of, names_made, is_eval, reply_of}
 use Rattle.cl_value.specs.Plain.{PlainAct, PlainWhat, Main, PlainReply}
+use Rattle.cl_model.specs.Alone.{replies_in, IsOwn}
 use Rattle.cl_model.specs.Machine.{State, Process, first, is_land, told, changed, after_from, after}
-
--- the replies that acts tell, in order
-abbrev pub replies_in : List PlainAct → List PlainReply
-replies_in [] = []
-replies_in (act ∷ acts) = option_to_list (reply_of act.what) ++ replies_in acts
-
--- an act of process 0 that neither makes a process nor lands, at a site below a bound
-pub record IsOwn (sites : ℕ) (act : PlainAct) : Type 0 where
-  pub proc : act.proc ≡ 0
-  pub no_eval : is_eval act.what ≡ false
-  pub no_land : is_land act.what ≡ false
-  pub site : act.site < sites
 
 -- process 0 after these replies
 abbrev pub main_after : List PlainReply → Process

@@ -9,3 +9,4 @@ pub mod SmallViews
 pub mod SmallMeaning
 pub mod Commands
 pub mod Refusals
+pub mod Alone

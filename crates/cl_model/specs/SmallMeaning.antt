@@ -1,9 +1,10 @@
 -- What the process of a small unit does, by recursion on its items. (Gelernter 1985 for the operations;
 -- variables that begin at 0, and the order from left to right: this project.)
 use Rattle.std.specs.Prelude.{ℕ, zero, suc, ◌+◌, if◌then◌else◌, List, [], ◌∷◌, ◌++◌, map, ℤ, pos}
+use Rattle.std.specs.Fmt.{signed_decimal}
 use Rattle.std.specs.List.{range_with_len}
 use Rattle.cl_value.specs.Matching.{matches}
-use Rattle.cl_value.specs.Plain.{Out, In, Main, Lives, PlainReply, Done, Got, Miss}
+use Rattle.cl_value.specs.Plain.{PlainAsk, Out, In, Inp, Main, Lives, PlainReply, Done, Got, Miss}
 use Rattle.cl_value.specs.declared.value.Value.{Value}
 use Rattle.cl_value.specs.declared.value.Value.TheVariants as values
 use Rattle.cl_value.specs.declared.value.FieldType.TheVariants as types
@@ -11,7 +12,9 @@ use Rattle.cl_value.specs.declared.template.Slot.{Slot}
 use Rattle.cl_value.specs.declared.template.Slot.TheVariants as slots
 use Rattle.cl_model.specs.Tokens.{same_bytes}
 use Rattle.cl_model.specs.Demand.{Demand, Demands, Outcome, Wants, Finishes, Misfit}
-use Rattle.cl_model.specs.Small.{PlainPiece, Text, Literal, Formal, PlainItem, Declare, DoOut, DoIn, is_known, operations_in}
+use Rattle.cl_model.specs.declared.small.Format.{Format}
+use Rattle.cl_model.specs.declared.small.Format.TheVariants as formats
+use Rattle.cl_model.specs.Small.{PlainPiece, Text, Literal, Formal, PlainItem, Declare, DoOut, DoIn, DoInp, Print, is_known, operations_in}
 
 -- the texts with that of a piece, at their end where it is new
 abbrev pub with_text : List (List ℕ) → PlainPiece → List (List ℕ)
@@ -28,6 +31,8 @@ texts_from texts [] = texts
 texts_from texts (Declare names ∷ items) = texts_from texts items
 texts_from texts (DoOut pieces ∷ items) = texts_from (with_texts texts pieces) items
 texts_from texts (DoIn pieces ∷ items) = texts_from (with_texts texts pieces) items
+texts_from texts (DoInp pieces ∷ items) = texts_from (with_texts texts pieces) items
+texts_from texts (Print format name ∷ items) = texts_from texts items
 
 -- the distinct string literals that stand as fields, in order of first use
 abbrev pub texts_of : List PlainItem → List (List ℕ)
@@ -56,7 +61,7 @@ value_of texts (Text bytes) = values.Text (text_number texts bytes)
 value_of texts (Literal value) = values.Int (pos value)
 value_of texts (Formal name) = values.Int (pos 0)
 
--- the slot of a piece of an `in`
+-- the slot of a piece of an `in` or `inp`
 abbrev pub slot_of : List (List ℕ) → PlainPiece → Slot
 slot_of texts (Text bytes) = slots.Actual (values.Text (text_number texts bytes))
 slot_of texts (Literal value) = slots.Actual (values.Int (pos value))
@@ -73,29 +78,45 @@ all_received variables [] vs = variables
 all_received variables (piece ∷ pieces) [] = variables
 all_received variables (piece ∷ pieces) (v ∷ vs) = all_received (received variables piece v) pieces vs
 
--- nothing is printed in this form
-abbrev pub silent : Outcome → Demand
-silent outcome = record { output = []; outcome = outcome }
+-- what a `printf` prints of a value (ISO/IEC 9899:1999, 7.19.6.1, for `%d`)
+abbrev pub printed : Format → ℤ → List ℕ
+printed formats.Number value = signed_decimal value
+printed formats.NumberAndLine value = signed_decimal value ++ 10 ∷ []
 
--- the process stands before these items, the next operation is at this site, and these replies are to come
-abbrev pub demand_from : List (List ℕ) → Variables → ℕ → List PlainItem → List PlainReply → Demand
-demand_from texts variables site [] [] = silent (Finishes (values.Int (pos 0) ∷ []))
-demand_from texts variables site [] (reply ∷ replies) = silent Misfit
-demand_from texts variables site (Declare names ∷ items) replies = demand_from texts variables site items replies
-demand_from texts variables site (DoOut pieces ∷ items) [] = silent (Wants (record { site = site; ask = Out (map (value_of texts) pieces) }))
-demand_from texts variables site (DoOut pieces ∷ items) (Done ∷ replies) = demand_from texts variables (site + 1) items replies
-demand_from texts variables site (DoOut pieces ∷ items) (Got t ∷ replies) = silent Misfit
-demand_from texts variables site (DoOut pieces ∷ items) (Miss ∷ replies) = silent Misfit
-demand_from texts variables site (DoIn pieces ∷ items) [] = silent (Wants (record { site = site; ask = In (map (slot_of texts) pieces) }))
-demand_from texts variables site (DoIn pieces ∷ items) (Got t ∷ replies) =
-    if matches (map (slot_of texts) pieces) t then demand_from texts (all_received variables pieces t) (site + 1) items replies else silent Misfit
-demand_from texts variables site (DoIn pieces ∷ items) (Done ∷ replies) = silent Misfit
-demand_from texts variables site (DoIn pieces ∷ items) (Miss ∷ replies) = silent Misfit
+-- what the process does next, where it printed this
+abbrev pub saying : List ℕ → Outcome → Demand
+saying output outcome = record { output = output; outcome = outcome }
+
+-- it asks at this site
+abbrev pub asking : List ℕ → ℕ → PlainAsk → Demand
+asking output site ask = saying output (Wants (record { site = site; ask = ask }))
+
+-- the process stands before these items, the next operation is at this site, it printed this, and these
+-- replies are to come
+abbrev pub demand_from : List (List ℕ) → Variables → List ℕ → ℕ → List PlainItem → List PlainReply → Demand
+demand_from texts variables output site [] [] = saying output (Finishes (values.Int (pos 0) ∷ []))
+demand_from texts variables output site [] (reply ∷ replies) = saying output Misfit
+demand_from texts variables output site (Declare names ∷ items) replies = demand_from texts variables output site items replies
+demand_from texts variables output site (Print format name ∷ items) replies = demand_from texts variables (output ++ printed format (variables name)) site items replies
+demand_from texts variables output site (DoOut pieces ∷ items) [] = asking output site (Out (map (value_of texts) pieces))
+demand_from texts variables output site (DoOut pieces ∷ items) (Done ∷ replies) = demand_from texts variables output (site + 1) items replies
+demand_from texts variables output site (DoOut pieces ∷ items) (Got t ∷ replies) = saying output Misfit
+demand_from texts variables output site (DoOut pieces ∷ items) (Miss ∷ replies) = saying output Misfit
+demand_from texts variables output site (DoIn pieces ∷ items) [] = asking output site (In (map (slot_of texts) pieces))
+demand_from texts variables output site (DoIn pieces ∷ items) (Got t ∷ replies) =
+    if matches (map (slot_of texts) pieces) t then demand_from texts (all_received variables pieces t) output (site + 1) items replies else saying output Misfit
+demand_from texts variables output site (DoIn pieces ∷ items) (Done ∷ replies) = saying output Misfit
+demand_from texts variables output site (DoIn pieces ∷ items) (Miss ∷ replies) = saying output Misfit
+demand_from texts variables output site (DoInp pieces ∷ items) [] = asking output site (Inp (map (slot_of texts) pieces))
+demand_from texts variables output site (DoInp pieces ∷ items) (Got t ∷ replies) =
+    if matches (map (slot_of texts) pieces) t then demand_from texts (all_received variables pieces t) output (site + 1) items replies else saying output Misfit
+demand_from texts variables output site (DoInp pieces ∷ items) (Miss ∷ replies) = demand_from texts variables output (site + 1) items replies
+demand_from texts variables output site (DoInp pieces ∷ items) (Done ∷ replies) = saying output Misfit
 
 -- the meaning of a small unit: process 0 alone, which stands before all items at first
 abbrev pub small_demands : List PlainItem → Demands
-small_demands items Main replies = demand_from (texts_of items) zeros 0 items replies
-small_demands items (Lives site live depth) replies = silent Misfit
+small_demands items Main replies = demand_from (texts_of items) zeros [] 0 items replies
+small_demands items (Lives site live depth) replies = saying [] Misfit
 
 -- one set with so many sites, or none where there is none
 abbrev pub one_set : ℕ → List (List ℕ)

@@ -4,14 +4,17 @@ use Rattle.std.specs.Prelude.{ℕ, ◌≡◌, ◌==◌, ◌≤◌, Bool, true, f
 use Rattle.std.specs.List.{list_all, list_any}
 use Rattle.std.specs.Fmt.{decimal}
 
--- a token of the small form
+-- a token of the small form; `LineFormat` is the string `"%d\n"`, whose bytes no other string has
 pub data Token : Type 0 where
   Name : (bytes : List ℕ) → Token
   IntWord : Token
   OutWord : Token
   InWord : Token
+  InpWord : Token
+  PrintfWord : Token
   Number : (value : ℕ) → Token
   Str : (bytes : List ℕ) → Token
+  LineFormat : Token
   OpenBracket : Token
   CloseBracket : Token
   OpenBrace : Token
@@ -73,8 +76,11 @@ spelling (Name bytes) = bytes
 spelling IntWord = codes "int"
 spelling OutWord = codes "out"
 spelling InWord = codes "in"
+spelling InpWord = codes "inp"
+spelling PrintfWord = codes "printf"
 spelling (Number value) = decimal value
 spelling (Str bytes) = 34 ∷ bytes ++ 34 ∷ []
+spelling LineFormat = codes "\"%d\\n\""
 spelling OpenBracket = codes "("
 spelling CloseBracket = codes ")"
 spelling OpenBrace = codes "{"
@@ -101,6 +107,8 @@ EndsBefore (Name bytes) rest = begins_with is_name_byte rest ≡ false
 EndsBefore IntWord rest = begins_with is_name_byte rest ≡ false
 EndsBefore OutWord rest = begins_with is_name_byte rest ≡ false
 EndsBefore InWord rest = begins_with is_name_byte rest ≡ false
+EndsBefore InpWord rest = begins_with is_name_byte rest ≡ false
+EndsBefore PrintfWord rest = begins_with is_name_byte rest ≡ false
 EndsBefore (Number value) rest = (if value == 0 then false else begins_with is_digit rest) ≡ false
 EndsBefore _ rest = Unit {0}
 

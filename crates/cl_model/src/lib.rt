@@ -4,4 +4,4 @@
 
 mod small;
 
-pub use small::{Item, Literal, Piece, SmallUnit};
+pub use small::{Format, Item, Literal, Piece, SmallUnit};

@@ -20,6 +20,15 @@ pub enum Piece {
     Formal(Items<u8>),
 }
 
+/// How a `printf` of the small form prints the value of a variable.
+#[derive(Clone, Copy, Debug, PartialEq, Eq)]
+pub enum Format {
+    /// `"%d"`: the number alone.
+    Number,
+    /// `"%d\n"`: the number and the end of the line.
+    NumberAndLine,
+}
+
 /// A statement or declaration of the small form.
 #[derive(Drop)]
 pub enum Item {
@@ -29,6 +38,10 @@ pub enum Item {
     Out(Items<Piece>),
     /// `in` and 1 to 16 pieces.
     In(Items<Piece>),
+    /// `inp` and 1 to 16 pieces.
+    Inp(Items<Piece>),
+    /// `printf`, a format and the name of an `int` variable.
+    Print(Format, Items<u8>),
 }
 
 /// A source of the small form: the body of `real_main`, in order.

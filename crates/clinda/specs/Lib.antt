@@ -1,4 +1,5 @@
 pub mod Tables
+pub mod Bindings
 pub mod Moment
 pub mod Standing
 pub mod Leaving

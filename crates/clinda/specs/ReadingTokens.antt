@@ -1,7 +1,7 @@
 -- Reading the next token of a list of bytes. (This project.)
 use Rattle.std.specs.Prelude.{ℕ, ◌+◌, ◌-◌, ◌*◌, ◌==◌, Bool, nat_le, List, [], ◌∷◌, take, drop, codes, Option, Some, None, option_map, if◌then◌else◌}
 use Rattle.std.specs.List.{list_any}
-use Rattle.cl_model.specs.Tokens.{Token, Name, IntWord, OutWord, InWord, Number, Str, OpenBracket, CloseBracket, OpenBrace, CloseBrace, Comma, Semicolon, Question, same_bytes, reserved, is_blank, is_digit, is_letter, is_name_byte, is_string_byte}
+use Rattle.cl_model.specs.Tokens.{Token, Name, IntWord, OutWord, InWord, InpWord, PrintfWord, Number, Str, LineFormat, OpenBracket, CloseBracket, OpenBrace, CloseBrace, Comma, Semicolon, Question, same_bytes, reserved, is_blank, is_digit, is_letter, is_name_byte, is_string_byte}
 use Rattle.clinda.specs.declared.small.kind.Kind.{Kind}
 use Rattle.clinda.specs.declared.small.kind.Kind.TheVariants as kinds
 
@@ -39,7 +39,9 @@ unfoldable pub keyword_of : List ℕ → Option Token
 keyword_of word =
     if same_bytes word (codes "int") then Some IntWord
     else (if same_bytes word (codes "out") then Some OutWord
-    else (if same_bytes word (codes "in") then Some InWord else None))
+    else (if same_bytes word (codes "in") then Some InWord
+    else (if same_bytes word (codes "inp") then Some InpWord
+    else (if same_bytes word (codes "printf") then Some PrintfWord else None))))
 
 -- the token of a whole word
 unfoldable pub word_of : List ℕ → Option Token
@@ -61,10 +63,19 @@ abbrev pub beside : Option Token → List ℕ → Option (Token × List ℕ)
 beside None rest = None
 beside (Some token) rest = Some (token, rest)
 
+-- the bytes behind `\n"`, if these are at the front
+abbrev pub after_line_end : List ℕ → Option (List ℕ)
+after_line_end (a ∷ b ∷ c ∷ rest) = if a == 92 then (if b == 110 then (if c == 34 then Some rest else None) else None) else None
+after_line_end _ = None
+
+-- the string `"%d\n"`, whose bytes before the `\` are these
+unfoldable pub line_format : List ℕ → List ℕ → Option (Token × List ℕ)
+line_format text behind = if same_bytes text (codes "%d") then option_map (λ rest. (LineFormat, rest)) (after_line_end behind) else None
+
 -- a string behind its first quote
 abbrev pub closed_string : List ℕ → List ℕ → Option (Token × List ℕ)
 closed_string text [] = None
-closed_string text (byte ∷ rest) = if byte == 34 then Some (Str text, rest) else None
+closed_string text (byte ∷ rest) = if byte == 34 then Some (Str text, rest) else line_format text (byte ∷ rest)
 
 -- a word at the front
 abbrev pub word_at : List ℕ → Option (Token × List ℕ)

@@ -1,7 +1,7 @@
 -- What contracts see of a token. (This project.)
 use Rattle.std.specs.Prelude.{ℕ, List, [], ◌∷◌, Option, Some, None}
 use Rattle.cl_model.specs.Small.{PlainItem, declared_in}
-use Rattle.cl_model.specs.Tokens.{Token, Name, IntWord, OutWord, InWord, Number, Str, OpenBracket, CloseBracket, OpenBrace, CloseBrace, Comma, Semicolon, Question}
+use Rattle.cl_model.specs.Tokens.{Token, Name, IntWord, OutWord, InWord, InpWord, PrintfWord, Number, Str, LineFormat, OpenBracket, CloseBracket, OpenBrace, CloseBrace, Comma, Semicolon, Question}
 use Rattle.clinda.specs.declared.small.token.Token.{Token as Found}
 use Rattle.clinda.specs.declared.small.token.Token.TheVariants as tokens
 
@@ -11,8 +11,11 @@ token_view (tokens.Name bytes) = Name bytes.now
 token_view tokens.IntWord = IntWord
 token_view tokens.OutWord = OutWord
 token_view tokens.InWord = InWord
+token_view tokens.InpWord = InpWord
+token_view tokens.PrintfWord = PrintfWord
 token_view (tokens.Number literal) = Number literal.value
 token_view (tokens.Str bytes) = Str bytes.now
+token_view tokens.LineFormat = LineFormat
 token_view tokens.OpenBracket = OpenBracket
 token_view tokens.CloseBracket = CloseBracket
 token_view tokens.OpenBrace = OpenBrace

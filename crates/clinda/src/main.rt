@@ -5,16 +5,21 @@
 //!
 //! - `words`: the command that the words spell.
 //! - `small`: the reader of the small form of a source.
-//! - `running`, `stage`, `tables`: the run of a unit, its state, and the texts and tuples of its pieces.
+//! - `running`, `stage`, `log`, `bindings`, `taking`, `printing`, `tables`: the run of a unit, its state, its
+//!   acts, the values of its variables, what it takes and prints, and the texts and tuples of its pieces.
 //! - `report_text`, `refusal`, `text`: the texts that are written.
 #![tactic(auto)]
 
+mod bindings;
+mod log;
+mod printing;
 mod refusal;
 mod report_text;
 mod running;
 mod small;
 mod stage;
 mod tables;
+mod taking;
 #[cfg(test)]
 mod tests;
 mod text;

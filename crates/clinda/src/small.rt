@@ -6,6 +6,7 @@ mod mark;
 mod name;
 mod number;
 mod piece;
+mod print;
 mod stop;
 #[cfg(test)]
 mod tests;

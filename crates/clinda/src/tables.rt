@@ -71,8 +71,8 @@ pub fn texts_of(alloc: Global, items: &[Item]) -> Result<Items<Items<u8>>, NoMem
     let mut texts = Items::new(alloc);
     for item in items {
         match item {
-            Item::Declare(_) => {}
-            Item::Out(pieces) | Item::In(pieces) => {
+            Item::Declare(_) | Item::Print(_, _) => {}
+            Item::Out(pieces) | Item::In(pieces) | Item::Inp(pieces) => {
                 add_texts(alloc, &mut texts, pieces.as_slice())?;
             }
         }
@@ -92,7 +92,7 @@ fn value_of(texts: &[Items<u8>], piece: &Piece) -> Value
     }
 }
 
-// The slot of a piece of an `in`.
+// The slot of a piece of an `in` or `inp`.
 fn slot_of(texts: &[Items<u8>], piece: &Piece) -> Slot
     requires { length texts.now < 2 ^ 32 }
     ensures { result ≡ spec.slot_of (table texts.now) (plain_piece piece.now) }
@@ -118,7 +118,7 @@ pub fn tuple_of(alloc: Global, texts: &[Items<u8>], pieces: &[Piece]) -> Result<
     Ok(Tuple::new(fields))
 }
 
-/// The template of an `in`.
+/// The template of an `in` or `inp`.
 pub fn template_of(
     alloc: Global,
     texts: &[Items<u8>],

@@ -102,6 +102,31 @@ fn units_give_their_texts(rt: HostRuntime) -> Result<(), Fail> {
             "process 0 waiting acts 2\nstatus 7 processes 1 acts 2\n",
             7,
         ),
+        (
+            "real_main(){int v;out(\"x\",7);inp(\"x\",?v);printf(\"%d\\n\",v);}",
+            "process 0 ended (0) acts 2\n7\nstatus 0 processes 1 acts 2\n",
+            0,
+        ),
+        (
+            "real_main(){int v;inp(\"x\",?v);printf(\"%d\\n\",v);}",
+            "process 0 ended (0) acts 1\n0\nstatus 0 processes 1 acts 1\n",
+            0,
+        ),
+        (
+            "real_main(){int a;out(\"q\",1);out(\"q\",2);inp(\"q\",?a);printf(\"%d\",a);printf(\"%d\",a);}",
+            "process 0 ended (0) acts 3\n11\nstatus 0 processes 1 acts 3\n",
+            0,
+        ),
+        (
+            "real_main(){int v;out(\"x\",2147483647);in(\"x\",?v);printf(\"%d\\n\",v);}",
+            "process 0 ended (0) acts 2\n2147483647\nstatus 0 processes 1 acts 2\n",
+            0,
+        ),
+        (
+            "real_main(){int a,b;printf(\"%d\",b);out(1,2);in(?a,?a);printf(\"%d\\n\",a);in(3);}",
+            "process 0 waiting acts 2\n02\nstatus 7 processes 1 acts 2\n",
+            7,
+        ),
         ("real_main(){switch(1){}}", "refused NotBuilt at 1:13\n", 2),
         (
             "real_main(){out(\"x\",y);}",

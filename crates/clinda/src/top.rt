@@ -36,7 +36,7 @@ ghost use Rattle.std.specs.Prelude.{◌≡◌, ◌^◌, ◌<◌, ◌≤◌, [], 
 ghost use Rattle.cl_value.specs.Tickets.{acts_in};
 ghost use Rattle.cl_value.specs.Views.{plain_run};
 ghost use Rattle.cl_model.specs.Good.{GoodRun, Turns};
-ghost use Rattle.cl_model.specs.Small.{keeps_rules, operations_in};
+ghost use Rattle.cl_model.specs.Small.{keeps_rules, operations_in, prints_in};
 ghost use Rattle.cl_model.specs.SmallViews.{plain_unit};
 ghost use Rattle.cl_model.specs.SmallMeaning.{small_demands, small_sets};
 ghost use Rattle.clinda.specs.Words.{words_in};
@@ -77,6 +77,7 @@ fn run_counted<L: Ledger>(
     requires some { 0 < blank.parts }
     requires rules { keeps_rules [] (plain_unit unit.now) ≡ true }
     requires operations { operations_in (plain_unit unit.now) ≤ 1024 }
+    requires prints { prints_in (plain_unit unit.now) ≤ 1024 }
     ensures good { IfOk result (λ run. IsRun (plain_unit unit.now) (plain_run run)) }
     ensures few { IfOk result (λ run. length (acts_in (plain_run run).histories) ≤ 1024) }
 {
@@ -88,6 +89,7 @@ fn run_counted<L: Ledger>(
 fn run(alloc: Global, unit: &SmallUnit) -> Result<RunReport, NoMemory>
     requires rules { keeps_rules [] (plain_unit unit.now) ≡ true }
     requires operations { operations_in (plain_unit unit.now) ≤ 1024 }
+    requires prints { prints_in (plain_unit unit.now) ≤ 1024 }
     ensures good { IfOk result (λ run. IsRun (plain_unit unit.now) (plain_run run)) }
     ensures few { IfOk result (λ run. length (acts_in (plain_run run).histories) ≤ 1024) }
 {
@@ -118,6 +120,7 @@ fn tell<O: Sink>(alloc: Global, unit: &SmallUnit, report: &RunReport, out: &mut 
 fn run_and_tell<O: Sink>(alloc: Global, unit: &SmallUnit, out: &mut O) -> TopEnd
     requires rules { keeps_rules [] (plain_unit unit.now) ≡ true }
     requires operations { operations_in (plain_unit unit.now) ≤ 1024 }
+    requires prints { prints_in (plain_unit unit.now) ≤ 1024 }
     ensures { Ran (plain_unit unit.now) result.status (option_map plain_run result.report) (O.written out.old) (O.written out.new) (O.faults out.old) (O.faults out.new) }
 {
     let Ok(report) = run(alloc, unit) else {

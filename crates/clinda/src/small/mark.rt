@@ -1,7 +1,7 @@
 //! Tokens that hold nothing, each read where it has to stand.
 
 ghost use Rattle.std.specs.Prelude.{◌≡◌};
-ghost use Rattle.clinda.specs.Reading.{Gives, chosen_at, open_bracket, close_bracket, open_brace, semicolon, goes_on, names_go_on};
+ghost use Rattle.clinda.specs.Reading.{Gives, chosen_at, open_bracket, close_bracket, open_brace, comma, semicolon, goes_on, names_go_on};
 
 use crate::small::kind::after_blanks;
 use crate::small::stop::Stop;
@@ -36,6 +36,17 @@ pub fn after_open_brace(bytes: &[u8]) -> Result<&[u8], Stop>
     let at = after_blanks(bytes);
     match token_at(at) {
         Some((Token::OpenBrace, rest)) => Ok(rest),
+        _ => Err(Stop::Refused(at.len())),
+    }
+}
+
+/// The bytes behind `,`.
+pub fn after_comma(bytes: &[u8]) -> Result<&[u8], Stop>
+    ensures { Gives (λ rest. (tt, rest.now)) result (chosen_at comma bytes.now) }
+{
+    let at = after_blanks(bytes);
+    match token_at(at) {
+        Some((Token::Comma, rest)) => Ok(rest),
         _ => Err(Stop::Refused(at.len())),
     }
 }

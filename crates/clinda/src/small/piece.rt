@@ -14,6 +14,15 @@ use cl_model::Piece;
 use cl_value::Items;
 use std::alloc::Global;
 
+/// What the pieces of an operation make.
+#[derive(Clone, Copy, Debug, PartialEq, Eq)]
+pub enum Makes {
+    /// Those of an `out` make a tuple; none is a formal.
+    Tuple,
+    /// Those of an `in` or `inp` make a template.
+    Template,
+}
+
 /// The most pieces that an operation has.
 const MOST_PIECES: usize = 16;
 
@@ -27,15 +36,15 @@ fn formal<'a>(alloc: Global, known: &[&[u8]], bytes: &'a [u8]) -> Result<(Piece,
     Ok((Piece::Formal(name), rest))
 }
 
-// Reads a piece, of an `in` if it may be a formal.
+// Reads a piece; in a template it may be a formal.
 #[tactic(auto, unfolding(crate::specs::Reading::piece_at))]
 fn piece<'a>(
     alloc: Global,
-    asks: bool,
+    makes: Makes,
     known: &[&[u8]],
     bytes: &'a [u8],
 ) -> Result<(Piece, &'a [u8]), Stop>
-    ensures { Gives (λ x. (plain_piece x.0, x.1.now)) result (piece_at asks (map (λ n. n.now) known.now) bytes.now) }
+    ensures { Gives (λ x. (plain_piece x.0, x.1.now)) result (piece_at makes (map (λ n. n.now) known.now) bytes.now) }
 {
     let at = after_blanks(bytes);
     match token_at(at) {
@@ -45,10 +54,9 @@ fn piece<'a>(
         }
         Some((Token::Number(literal), rest)) => Ok((Piece::Number(literal), rest)),
         Some((Token::Question, rest)) => {
-            if asks {
-                formal(alloc, known, rest)
-            } else {
-                Err(Stop::Refused(at.len()))
+            match makes {
+                Makes::Template => formal(alloc, known, rest),
+                Makes::Tuple => Err(Stop::Refused(at.len())),
             }
         }
         _ => Err(Stop::Refused(at.len())),
@@ -58,16 +66,16 @@ fn piece<'a>(
 // Reads the pieces of an operation, up to `)`.
 fn pieces<'a>(
     alloc: Global,
-    asks: bool,
+    makes: Makes,
     known: &[&[u8]],
     bytes: &'a [u8],
 ) -> Result<(Items<Piece>, &'a [u8]), Stop>
-    ensures { Gives (λ x. (map plain_piece x.0.items, x.1.now)) result (pieces_at asks (map (λ n. n.now) known.now) bytes.now) }
+    ensures { Gives (λ x. (map plain_piece x.0.items, x.1.now)) result (pieces_at makes (map (λ n. n.now) known.now) bytes.now) }
 {
     let mut pieces = Items::new(alloc);
     let mut rest = bytes;
     for _ in 0..MOST_PIECES {
-        let (next, after) = match piece(alloc, asks, known, rest) {
+        let (next, after) = match piece(alloc, makes, known, rest) {
             Ok(found) => found,
             Err(stop) => return Err(stop),
         };
@@ -89,14 +97,14 @@ fn pieces<'a>(
 #[tactic(auto, unfolding(crate::specs::Reading::operation_at))]
 pub fn operation<'a>(
     alloc: Global,
-    asks: bool,
+    makes: Makes,
     known: &[&[u8]],
     bytes: &'a [u8],
 ) -> Result<(Items<Piece>, &'a [u8]), Stop>
-    ensures { Gives (λ x. (map plain_piece x.0.items, x.1.now)) result (operation_at asks (map (λ n. n.now) known.now) bytes.now) }
+    ensures { Gives (λ x. (map plain_piece x.0.items, x.1.now)) result (operation_at makes (map (λ n. n.now) known.now) bytes.now) }
 {
     let rest = after_open_bracket(bytes)?;
-    match pieces(alloc, asks, known, rest) {
+    match pieces(alloc, makes, known, rest) {
         Ok((pieces, rest)) => {
             let rest = after_semicolon(rest)?;
             Ok((pieces, rest))

@@ -61,6 +61,23 @@ fn refused(rt: HostRuntime) {
 }
 
 #[test]
+fn statements_that_print(rt: HostRuntime) {
+    for (source, place) in [
+        (b"real_main(){int v;printf(\"%d\",v);}".as_slice(), None),
+        (b"real_main(){int v;printf ( \"%d\\n\" , v ) ; }", None),
+        (b"real_main(){int v;printf(\"%d \",v);}", Some(25)),
+        (b"real_main(){int v;printf(\"%d\\t\",v);}", Some(25)),
+        (b"real_main(){int v;printf(\"%d\",w);}", Some(30)),
+        (b"real_main(){int v;printf(\"%d\");}", Some(29)),
+        (b"real_main(){int v;out(\"%d\",1);}", None),
+        (b"real_main(){int v;out(\"%d\\n\",1);}", Some(22)),
+        (b"real_main(){int inp;}", Some(16)),
+    ] {
+        assert_eq!(rt; place_of(rt.alloc(), source), place);
+    }
+}
+
+#[test]
 fn counts(rt: HostRuntime) {
     let sixteen = b"real_main(){out(1,2,3,4,5,6,7,8,9,0,1,2,3,4,5,6);}";
     assert_eq!(rt; items_of(rt.alloc(), sixteen), Some(1));
@@ -68,12 +85,12 @@ fn counts(rt: HostRuntime) {
     assert_eq!(rt; place_of(rt.alloc(), seventeen), Some(48));
 }
 
-// A source with so many operations.
-fn operations(alloc: Global, count: usize) -> Result<Vec<u8>, AllocError> {
+// A source with so many statements of one kind, behind a declaration.
+fn statements(alloc: Global, statement: &[u8], count: usize) -> Result<Vec<u8>, AllocError> {
     let mut source = Vec::new(alloc);
-    source.extend_from_slice(b"real_main(){")?;
+    source.extend_from_slice(b"real_main(){int v;")?;
     for _ in 0..count {
-        source.extend_from_slice(b"out(1);")?;
+        source.extend_from_slice(statement)?;
     }
     source.push(b'}')?;
     Ok(source)
@@ -96,11 +113,13 @@ fn declarations(alloc: Global, count: usize) -> Result<Vec<u8>, AllocError> {
 #[test]
 fn limits(rt: HostRuntime) -> Result<(), Fail> {
     let alloc = rt.alloc();
-    assert_eq!(rt; items_of(alloc, &operations(alloc, 1024)?), Some(1024));
-    assert_eq!(rt;
-        place_of(alloc, &operations(alloc, 1025)?),
-        Some(12 + 7 * 1024)
-    );
+    for statement in [b"inp(1);".as_slice(), b"printf(\"%d\",v);"] {
+        let most = statements(alloc, statement, 1024)?;
+        assert_eq!(rt; items_of(alloc, &most), Some(1025));
+        let more = statements(alloc, statement, 1025)?;
+        let place = statement.len().saturating_mul(1024).saturating_add(18);
+        assert_eq!(rt; place_of(alloc, &more), Some(place));
+    }
     assert_eq!(rt; items_of(alloc, &declarations(alloc, 1024)?), Some(1024));
     assert_eq!(rt;
         place_of(alloc, &declarations(alloc, 1025)?),

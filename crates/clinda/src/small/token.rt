@@ -2,7 +2,7 @@
 
 ghost use Rattle.std.specs.Prelude.{◌≡◌, option_map};
 ghost use Rattle.cl_model.specs.Tokens.{is_string_byte};
-ghost use Rattle.clinda.specs.ReadingTokens.{token_at, word_at, number_at, closed_string, front_run, after_run, word_of, keyword_of, mark_of};
+ghost use Rattle.clinda.specs.ReadingTokens.{token_at, word_at, number_at, closed_string, after_line_end, line_format, front_run, after_run, word_of, keyword_of, mark_of};
 ghost use Rattle.clinda.specs.ReadingViews.{token_view};
 
 use crate::small::kind::{Kind, is_letter, is_of, split_run};
@@ -18,9 +18,13 @@ pub enum Token<'a> {
     IntWord,
     OutWord,
     InWord,
+    InpWord,
+    PrintfWord,
     Number(Literal),
     /// The bytes of a string literal between its quotes.
     Str(&'a [u8]),
+    /// The string `"%d\n"`, the one with a `\`.
+    LineFormat,
     OpenBracket,
     CloseBracket,
     OpenBrace,
@@ -41,6 +45,10 @@ fn keyword(word: &[u8]) -> Option<Token<'_>>
         Some(Token::OutWord)
     } else if is_same(word, b"in") {
         Some(Token::InWord)
+    } else if is_same(word, b"inp") {
+        Some(Token::InpWord)
+    } else if is_same(word, b"printf") {
+        Some(Token::PrintfWord)
     } else {
         None
     }
@@ -97,6 +105,30 @@ fn number_at(bytes: &[u8]) -> Option<(Token<'_>, &[u8])>
     }
 }
 
+// The bytes behind `\n"`, if these are at the front.
+fn after_line_end(bytes: &[u8]) -> Option<&[u8]>
+    ensures { option_map (λ rest. rest.now) result ≡ after_line_end bytes.now }
+{
+    match bytes {
+        [92, 110, 34, rest @ ..] => Some(rest),
+        _ => None,
+    }
+}
+
+// Reads the string `"%d\n"`, whose bytes before the `\` are these.
+#[tactic(auto, unfolding(crate::specs::ReadingTokens::line_format))]
+fn line_format_at<'a>(text: &[u8], behind: &'a [u8]) -> Option<(Token<'a>, &'a [u8])>
+    ensures { option_map (λ x. (token_view x.0, x.1.now)) result ≡ line_format text.now behind.now }
+{
+    if !is_same(text, b"%d") {
+        return None;
+    }
+    match after_line_end(behind) {
+        Some(rest) => Some((Token::LineFormat, rest)),
+        None => None,
+    }
+}
+
 // Reads a string behind its first quote.
 fn string_at(bytes: &[u8]) -> Option<(Token<'_>, &[u8])>
     ensures { option_map (λ x. (token_view x.0, x.1.now)) result ≡ closed_string (front_run is_string_byte bytes.now) (after_run is_string_byte bytes.now) }
@@ -104,7 +136,7 @@ fn string_at(bytes: &[u8]) -> Option<(Token<'_>, &[u8])>
     let (text, behind) = split_run(Kind::StringByte, bytes);
     match behind {
         [34, rest @ ..] => Some((Token::Str(text), rest)),
-        _ => None,
+        _ => line_format_at(text, behind),
     }
 }
 
