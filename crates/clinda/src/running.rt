@@ -160,7 +160,7 @@ fn report_of(
     operations: usize,
     left: LeftOff,
 ) -> Result<RunReport, NoMemory>
-    ensures { IfOk result (λ run. plain_run run ≡ run_of operations stage (leaving.end_of left)) }
+    ensures { IfOk result (λ run. plain_run run ≡ run_of operations stage.entry (leaving.end_of left)) }
 {
     let end = end_of(alloc, left)?;
     let deeds = stage.into_deeds();

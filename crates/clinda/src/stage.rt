@@ -198,9 +198,9 @@ impl<'a> Stage<'a> {
 
     /// What the process did.
     pub fn into_deeds(self) -> Deeds
-        ensures acts { map plain_act result.acts.items ≡ self.acts }
-        ensures history { map plain_act result.history.items ≡ self.acts }
-        ensures output { result.output.items ≡ self.output }
+        ensures acts { map plain_act result.acts.items ≡ self.entry.acts }
+        ensures history { map plain_act result.history.items ≡ self.entry.acts }
+        ensures output { result.output.items ≡ self.entry.output }
     {
         let Stage {
             log,

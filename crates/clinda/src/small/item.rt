@@ -41,7 +41,7 @@ pub enum Start {
 
 // What begins with the token, behind so many operations and `printf`s.
 fn start_of(operations: usize, prints: usize, token: Token<'_>) -> Option<Start>
-    ensures { result ≡ item_start operations prints (token_view token) }
+    ensures { result ≡ item_start operations prints (token_view token.entry) }
 {
     match token {
         Token::CloseBrace => Some(Start::Close),
