@@ -26,7 +26,7 @@ impl Model for Log {
 }
 
 impl Log {
-    ghost use Rattle.std.specs.Prelude.{◌≡◌, ◌<◌, ◌∷◌, ◌++◌, [], length, map, OnOk};
+    ghost use Rattle.std.specs.Prelude.{◌≡◌, ◌-◌, ◌^◌, ◌<◌, ◌∷◌, ◌++◌, [], length, map, OnOk};
     ghost use Rattle.cl_value.specs.Room.{Room};
     ghost use Rattle.cl_value.specs.Views.{plain_act};
 
@@ -40,11 +40,12 @@ impl Log {
         }
     }
 
-    /// The number of acts.
+    /// The number of acts. One more can be counted.
     pub fn len(&self) -> usize
-        ensures { result ≡ length self.now.items }
+        ensures acts { result ≡ length self.now.items }
+        ensures more { result < 2 ^ 64 - 1 }
     {
-        self.history.len()
+        self.history.as_slice().len()
     }
 
     /// Makes room for one more act. The acts stay, whatever the answer.
