@@ -3,42 +3,32 @@ use Rattle.std.proofs.Common.{◌≡◌, ℕ, zero, suc, ◌+◌, ◌<◌, ◌�
 use Rattle.std.specs.Prelude.{map, Contains}
 use Rattle.std.specs.List.{AllByRecursion, range_with_len}
 use Rattle.cl_value.specs.Acts.{names_made}
-use Rattle.cl_value.specs.Plain.{PlainReply, Done, Got, Miss, PlainAct, PlainEnd, Ended, Trapped, NoThread, HistoryFull, NoMemory, Stopped, Waiting, PlainHistory}
+use Rattle.cl_value.specs.Plain.{PlainAct, PlainEnd, Ended, Trapped, NoThread, HistoryFull, NoMemory, Stopped, Waiting, PlainHistory}
 use Rattle.cl_value.specs.Replay.{Oldest}
 use Rattle.cl_value.specs.Tickets.{NumberedFrom, placed, in_order, acts_in, by_ticket}
-use Rattle.cl_value.specs.Matching.{matches}
 use Rattle.std.proofs.lemmas.List.FromFn.{length-range_with_len, get_or-range_with_len}
-use Rattle.cl_model.specs.Demand.{Demand, Finishes, Misfit}
+use Rattle.cl_model.specs.Demand.{Finishes}
 use Rattle.cl_model.specs.Machine.{Legal, Process, after, demand_of}
 use Rattle.cl_model.specs.Ends.{Stuck, GoesOn, is_over, Waits}
 use Rattle.cl_model.specs.Good.{Turns, GoodReport, EndAgrees, OutputAgrees, HistoriesAre, AllEnded, SomeWait, WithFailure, EndsAgree, some_failure, GoodRun}
-use Rattle.cl_model.specs.Small.{PlainItem, Declare, DoOut, DoIn, operations_in}
-use Rattle.cl_model.specs.SmallMeaning.{Variables, zeros, one_set, silent, all_received, texts_of, slot_of, small_demands, small_sets, demand_from}
+use Rattle.cl_model.specs.Small.{PlainItem, Declare, DoOut, DoIn, DoInp, Print, operations_in}
+use Rattle.cl_model.specs.SmallMeaning.{Variables, one_set, texts_of, slot_of, small_demands, small_sets, demand_from}
 use Rattle.cl_model.proofs.Bags.{none_found}
 use Rattle.cl_model.proofs.Histories.{by_ticket_one}
-use Rattle.cl_model.proofs.Alone.{replies_in, IsOwn, main_after, alone, acts_of_own, names_of_own}
+use Rattle.cl_model.specs.Alone.{replies_in, IsOwn}
+use Rattle.cl_model.proofs.Alone.{main_after, alone, acts_of_own, names_of_own}
 use Rattle.clinda.specs.Moment.{Moment}
-use Rattle.clinda.specs.Standing.{one_history, Stands, StandsAt, WaitsAt, report_of, run_of}
-use Rattle.clinda.proofs.Standing.{counts, outcome_now}
+use Rattle.clinda.specs.Standing.{one_history, Stands, StandsAt, WaitsAt, AtOperation, report_of, run_of}
+use Rattle.clinda.proofs.Standing.{counts, outcome_now, output_now}
 
--- nothing is printed
-silent_from : (texts : List (List ℕ)) (variables : Variables) (site : ℕ) (items : List PlainItem) (replies : List PlainReply) → (demand_from texts variables site items replies).output ≡ []
-silent_from texts variables site [] [] = refl
-silent_from texts variables site [] (reply ∷ replies) = refl
-silent_from texts variables site (Declare names ∷ items) replies = silent_from texts variables site items replies
-silent_from texts variables site (DoOut pieces ∷ items) [] = refl
-silent_from texts variables site (DoOut pieces ∷ items) (Done ∷ replies) = silent_from texts variables (site + 1) items replies
-silent_from texts variables site (DoOut pieces ∷ items) (Got t ∷ replies) = refl
-silent_from texts variables site (DoOut pieces ∷ items) (Miss ∷ replies) = refl
-silent_from texts variables site (DoIn pieces ∷ items) [] = refl
-silent_from texts variables site (DoIn pieces ∷ items) (Got t ∷ replies) =
-    by_test (matches (map (slot_of texts) pieces) t) (demand_from texts (all_received variables pieces t) (site + 1) items replies) (silent_from texts (all_received variables pieces t) (site + 1) items replies)
-  where
-    by_test : (b : Bool) (d : Demand) → d.output ≡ [] → (cond b d (silent Misfit)).output ≡ []
-    by_test true d h = h
-    by_test false d h = refl
-silent_from texts variables site (DoIn pieces ∷ items) (Done ∷ replies) = refl
-silent_from texts variables site (DoIn pieces ∷ items) (Miss ∷ replies) = refl
+-- before an operation, and before no item, the demand has the output so far
+said_so_far : (texts : List (List ℕ)) (variables : Variables) (output : List ℕ) (site : ℕ) (items : List PlainItem) → AtOperation items → (demand_from texts variables output site items []).output ≡ output
+said_so_far texts variables output site [] at = refl
+said_so_far texts variables output site (Declare names ∷ items) at = absurd at
+said_so_far texts variables output site (DoOut pieces ∷ items) at = refl
+said_so_far texts variables output site (DoIn pieces ∷ items) at = refl
+said_so_far texts variables output site (DoInp pieces ∷ items) at = refl
+said_so_far texts variables output site (Print format name ∷ items) at = absurd at
 
 -- without operations there are no acts
 no_acts : (acts : List PlainAct) → AllByRecursion (IsOwn 0) acts → acts ≡ []
@@ -69,7 +59,7 @@ by_ticket_are (suc n) m end numbered own = by_ticket_one (record { set = 0; acts
 -- where a run stands before items, process 0 demands what they begin with
 module _ (unit : List PlainItem) (items : List PlainItem) (m : Moment) (s : Stands unit items m) where
   -- the report is good, where its end agrees
-  good_report : (end : PlainEnd) → EndAgrees Turns (report_of m end) (main_after (replies_in m.acts)) (demand_from (texts_of unit) s.variables m.site items []).outcome end → OutputAgrees (report_of m end) [] end → GoodReport (small_demands unit) Turns m.acts (report_of m end)
+  good_report : (end : PlainEnd) → EndAgrees Turns (report_of m end) (main_after (replies_in m.acts)) (demand_from (texts_of unit) s.variables m.output m.site items []).outcome end → OutputAgrees (report_of m end) (demand_from (texts_of unit) s.variables m.output m.site items []).output end → GoodReport (small_demands unit) Turns m.acts (report_of m end)
   good_report end agrees output =
       let one = alone (operations_in unit) m.acts s.own in
       record {
@@ -79,7 +69,7 @@ module _ (unit : List PlainItem) (items : List PlainItem) (m : Moment) (s : Stan
         acts_are = sym (acts_of_own (operations_in unit) m.acts s.own);
         kids_are = sym (names_of_own (operations_in unit) m.acts s.own);
         end_is = subst (λ outcome. EndAgrees Turns (report_of m end) (main_after (replies_in m.acts)) outcome end) (sym (outcome_now s)) agrees;
-        output_is = subst (λ output. OutputAgrees (report_of m end) output end) (sym (silent_from (texts_of unit) zeros 0 unit (replies_in m.acts))) output;
+        output_is = subst (λ output. OutputAgrees (report_of m end) output end) (sym (output_now s)) output;
       }
 
   -- the run is good, where its report and its end are
@@ -111,7 +101,7 @@ none_else unit items m s n p g =
     cc
 
 -- process 0 is over exactly as its demand says
-over_now : (unit : List PlainItem) (items : List PlainItem) (m : Moment) (s : Stands unit items m) (b : Bool) → is_over 0 (main_after (replies_in m.acts)) (demand_from (texts_of unit) s.variables m.site items []).outcome ≡ b → is_over 0 (main_after (replies_in m.acts)) (demand_of (small_demands unit) (main_after (replies_in m.acts))).outcome ≡ b
+over_now : (unit : List PlainItem) (items : List PlainItem) (m : Moment) (s : Stands unit items m) (b : Bool) → is_over 0 (main_after (replies_in m.acts)) (demand_from (texts_of unit) s.variables m.output m.site items []).outcome ≡ b → is_over 0 (main_after (replies_in m.acts)) (demand_of (small_demands unit) (main_after (replies_in m.acts))).outcome ≡ b
 over_now unit items m s b h = ap (λ outcome. is_over 0 (main_after (replies_in m.acts)) outcome) (outcome_now s) ∙ h
 
 -- a finished process isn't stuck
@@ -153,7 +143,7 @@ run_is_good unit m Waiting w =
     let report = good_report unit items m w.stands Waiting (record { no_trap = λ t e. cc; not_over = refl }) refl in
     good_run unit items m w.stands Waiting report (SomeWait tt (is_stuck unit m w) refl (tt, tt))
 run_is_good unit m NoMemory s =
-    let report = good_report unit s.0 m s.1 NoMemory tt (inl refl) in
+    let report = good_report unit s.0 m s.1 NoMemory tt (inl (sym (said_so_far (texts_of unit) s.1.variables m.output m.site s.0 s.2))) in
     let failure : WithFailure (run_of (operations_in unit) m NoMemory) =
     record { halting = report_of m NoMemory; reported = (0, omega arith, refl); failed = refl; status = refl; others = (tt, tt) } in
     good_run unit s.0 m s.1 NoMemory report failure

@@ -1,3 +1,4 @@
+pub mod Valued
 pub mod Standing
 pub mod Goods
 pub mod Runs

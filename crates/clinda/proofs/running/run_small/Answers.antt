@@ -1,4 +1,4 @@
-use Rattle.std.proofs.Common.{◌≡◌, ◌≤◌, ℕ, List, [], ◌<◌, arith, inl, inr, refl, ap, ◌∙◌, sym, subst, length}
+use Rattle.std.proofs.Common.{◌≡◌, ◌≤◌, ◌*◌, ℕ, List, [], ◌<◌, arith, inl, inr, refl, ap, ◌∙◌, sym, subst, length}
 use Rattle.std.specs.Prelude.{map}
 use Rattle.std.specs.List.{AllByRecursion}
 use Rattle.std.proofs.lemmas.Result.{IfOk-weaker}
@@ -12,7 +12,7 @@ use Rattle.clinda.specs.declared.running.LeftOff.TheVariants as left_off
 use Rattle.clinda.specs.Moment.{Moment, beginning}
 use Rattle.cl_value.specs.Views.{plain_run}
 use Rattle.cl_model.specs.Good.{GoodRun, Turns}
-use Rattle.cl_model.specs.Small.{PlainItem, operations_in}
+use Rattle.cl_model.specs.Small.{PlainItem, operations_in, prints_in}
 use Rattle.cl_model.specs.SmallViews.{plain_item, plain_unit}
 use Rattle.cl_model.specs.SmallMeaning.{texts_of, small_demands, small_sets}
 use Rattle.clinda.specs.Tables.{table}
@@ -35,12 +35,14 @@ perform_all-left-requires-clause-texts g c =
     subst (λ (xs : List (Room ℕ)). length xs < 4294967296) (sym c.as_slice.ensures) bound
 
 -- where the run left off it stands
-leaves_there : (unit : List PlainItem) (items : List Item) (texts : List (Room ℕ)) (stage begun : Moment) (left : LeftOff)
-    → map plain_item items ≡ unit → table texts ≡ texts_of (map plain_item items) → begun ≡ beginning
+leaves_there : (unit : List PlainItem) (items : List Item) (texts : List (Room ℕ)) (stage begun : Moment) (left : LeftOff) (count : ℕ)
+    → map plain_item items ≡ unit → table texts ≡ texts_of (map plain_item items) → begun ≡ beginning begun.room
+    → count ≡ prints_in (map plain_item items) → 12 * count ≤ begun.room
     → ((u : List PlainItem) → table texts ≡ texts_of u → Stands u (map plain_item items) begun → LeavesAt u stage left)
     → LeavesAt unit stage left
-leaves_there unit items texts stage begun left same table_is at_first leaves =
-    let start : Stands unit (map plain_item items) begun = subst (λ m. Stands unit (map plain_item items) m) (sym at_first) (subst (λ xs. Stands unit xs beginning) (sym same) (begins unit)) in
+leaves_there unit items texts stage begun left count same table_is at_first counted room leaves =
+    let fits : 12 * prints_in unit ≤ begun.room = subst (λ n. 12 * n ≤ begun.room) (counted ∙ ap prints_in same) room in
+    let start : Stands unit (map plain_item items) begun = subst (λ m. Stands unit (map plain_item items) m) (sym at_first) (subst (λ xs. Stands unit xs (beginning begun.room)) (sym same) (begins unit begun.room fits)) in
     leaves unit (table_is ∙ ap texts_of same) start
 
 status_of : (left : LeftOff) → IsRunStatus (status_at (end_of left))
@@ -58,8 +60,8 @@ returns g c =
     let stage = c.perform_all-left.new.stage in
     let left = c.perform_all-left.result in
     let leaves : LeavesAt unit stage left =
-    leaves_there unit c.as_slice-items.result.now c.as_slice.result.now stage c.new-stage.result left same
-    (ap table c.as_slice.ensures ∙ c.in_ok-texts.ensures.texts) c.new-stage.ensures c.perform_all-left.ensures
+    leaves_there unit c.as_slice-items.result.now c.as_slice.result.now stage c.in_ok-stage.stage left c.prints_in.result same
+    (ap table c.as_slice.ensures ∙ c.in_ok-texts.ensures.texts) c.in_ok-stage.ensures.begins c.prints_in.ensures c.in_ok-stage.ensures.room c.perform_all-left.ensures
     in
     let operations : c.operations_in.result ≡ operations_in unit = c.operations_in.ensures ∙ ap operations_in same in
     let reported : (run : RunReport) → plain_run run ≡ run_of c.operations_in.result stage (end_of left) → plain_run run ≡ run_of (operations_in unit) stage (end_of left) = λ run h. h ∙ ap (λ n. run_of n stage (end_of left)) operations in
