@@ -1,14 +1,14 @@
 -- A run of a small unit goes on item by item, and its report is good.
-use Rattle.std.proofs.Common.{◌≡◌, ℕ, ◌+◌, ◌<◌, ◌≤◌, true, false, List, [], ◌∷◌, ◌++◌, length, Some, None, refl, sym, ap, subst, ◌∙◌, arith, inl, inr, append-nil, append_assoc}
-use Rattle.std.specs.Prelude.{map, option_to_list, nat_le, ◌*◌, ◌&&◌, ◌⊎◌}
+use Rattle.std.proofs.Common.{◌≡◌, ℕ, ◌+◌, ◌≤◌, true, false, List, [], ◌∷◌, ◌++◌, length, Some, refl, sym, ap, subst, ◌∙◌, arith, inl, inr, append-nil, append_assoc}
+use Rattle.std.specs.Prelude.{map, option_to_list, nat_le, ◌*◌, ◌&&◌}
 use Rattle.std.proofs.lemmas.Bool.{leb-true}
 use Rattle.std.proofs.lemmas.List.{length_push}
 use Rattle.std.specs.List.{AllByRecursion}
 use Rattle.cl_value.specs.Acts.{reply_of, is_eval}
 use Rattle.cl_value.specs.Plain.{Main, PlainReply, Done, Got, Miss, PlainAct, PlainWhat, DidOut, DidIn, InpHit, InpMiss}
-use Rattle.cl_value.specs.Replay.{first_match, without_first, found, replayed, TakesOldest}
+use Rattle.cl_value.specs.Replay.{without_first, replayed, TakesOldest}
 use Rattle.cl_value.specs.declared.value.Value.{Value}
-use Rattle.cl_model.specs.Alone.{replies_in, IsOwn}
+use Rattle.cl_model.specs.Alone.{replies_in}
 use Rattle.cl_model.specs.Demand.{Demand}
 use Rattle.cl_model.specs.Machine.{MayCome, after, is_land}
 use Rattle.cl_model.specs.declared.small.Format.{Format}
@@ -271,7 +271,6 @@ keeps_sound known (DoIn pieces ∷ items) h =
     let parts = both (is_some_up_to 16 pieces) (all_may_ask known pieces && keeps_rules known items) h in
     let rest = both (all_may_ask known pieces) (keeps_rules known items) parts.1 in
     (has_pieces pieces parts.0, keeps_sound known items rest.1)
-
 keeps_sound known (DoInp pieces ∷ items) h =
     let parts = both (is_some_up_to 16 pieces) (all_may_ask known pieces && keeps_rules known items) h in
     let rest = both (all_may_ask known pieces) (keeps_rules known items) parts.1 in

@@ -3,7 +3,7 @@ use Rattle.std.specs.Prelude.{ℕ, if◌then◌else◌, List, [], ◌∷◌, ◌
 use Rattle.cl_value.specs.declared.value.Value.{Value}
 use Rattle.cl_value.specs.declared.value.Value.TheVariants as values
 use Rattle.cl_model.specs.Tokens.{same_bytes}
-use Rattle.cl_model.specs.Small.{PlainPiece, Text, Literal, Formal}
+use Rattle.cl_model.specs.Small.{PlainPiece, Formal}
 use Rattle.clinda.specs.declared.bindings.Binding.{Binding}
 
 -- a variable, and a value that it was given

@@ -1,5 +1,4 @@
 use Rattle.std.proofs.Common.{◌≡◌, ◌+◌, ◌≤◌, length, map, drop}
-use Rattle.cl_value.specs.Room.{Room}
 use Rattle.cl_model.specs.SmallViews.{plain_piece}
 use Rattle.clinda.specs.Bindings.{plain_bindings, all_bound}
 use Rattle.clinda.proofs.bindings.bind_all.Given as goal
