@@ -134,9 +134,13 @@ fn string_at(bytes: &[u8]) -> Option<(Token<'_>, &[u8])>
     ensures { option_map (λ x. (token_view x.0, x.1.now)) result ≡ closed_string (front_run is_string_byte bytes.now) (after_run is_string_byte bytes.now) }
 {
     let (text, behind) = split_run(Kind::StringByte, bytes);
-    match behind {
-        [34, rest @ ..] => Some((Token::Str(text), rest)),
-        _ => line_format_at(text, behind),
+    let [byte, rest @ ..] = behind else {
+        return None;
+    };
+    if *byte == b'"' {
+        Some((Token::Str(text), rest))
+    } else {
+        line_format_at(text, behind)
     }
 }
 
