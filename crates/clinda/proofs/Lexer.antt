@@ -7,8 +7,8 @@ use Rattle.std.proofs.lemmas.Bool.{eqb-true, eqb-false, ne_eqb, leb-true, le-leb
 use Rattle.std.proofs.lemmas.List.{append-nil, take-append-drop}
 use Rattle.std.proofs.lemmas.Str.Parse.{IsNumeralModel, numerals_by_fold}
 use Rattle.std.proofs.lemmas.Fmt.{digits_decimal, digits_value-decimal, first_decimal, decimal_nonempty, decimal-digits_value, decimal_digit}
-use Rattle.cl_model.specs.Tokens.{Token, Name, IntWord, OutWord, InWord, Number, Str, OpenBracket, CloseBracket, OpenBrace, CloseBrace, Comma, Semicolon, Question, same_bytes, reserved, is_between, is_blank, is_digit, is_letter, is_name_byte, is_string_byte, is_word, spelling, IsToken, EndsBefore, IsFirst, begins_with}
-use Rattle.clinda.specs.ReadingTokens.{run, front_run, after_run, skip, read_on, literal_of, keyword_of, word_of, mark_of, beside, closed_string, word_at, number_at, token_at}
+use Rattle.cl_model.specs.Tokens.{Token, Name, IntWord, OutWord, InWord, InpWord, PrintfWord, Number, Str, LineFormat, OpenBracket, CloseBracket, OpenBrace, CloseBrace, Comma, Semicolon, Question, same_bytes, reserved, is_between, is_blank, is_digit, is_letter, is_name_byte, is_string_byte, is_word, spelling, IsToken, EndsBefore, IsFirst, begins_with}
+use Rattle.clinda.specs.ReadingTokens.{run, front_run, after_run, skip, read_on, literal_of, keyword_of, word_of, mark_of, beside, after_line_end, line_format, closed_string, word_at, number_at, token_at}
 use Rattle.clinda.proofs.Runs.{same_is}
 
 -- ---- runs
@@ -147,7 +147,7 @@ digits_again (d ∷ ds) rest value e above small ends =
     one ∙ ap (λ (n : ℕ). Some (Number n, rest)) v
 
 again : (token : Token) (rest : List ℕ) → IsToken token → EndsBefore token rest → token_at (spelling token ++ rest) ≡ Some (token, rest)
-unfolding token_at word_of keyword_of mark_of
+unfolding token_at word_of keyword_of mark_of line_format
 again (Name []) rest form ends = absurd cc
 again (Name (c ∷ cs)) rest form ends =
     let parts = and_parts (is_word (c ∷ cs)) (not (list_any (same_bytes (c ∷ cs)) reserved)) form in
@@ -158,9 +158,12 @@ again (Name (c ∷ cs)) rest form ends =
 again IntWord rest form ends = word_again 105 (110 ∷ 116 ∷ []) rest IntWord refl refl ends refl
 again OutWord rest form ends = word_again 111 (117 ∷ 116 ∷ []) rest OutWord refl refl ends refl
 again InWord rest form ends = word_again 105 (110 ∷ []) rest InWord refl refl ends refl
+again InpWord rest form ends = word_again 105 (110 ∷ 112 ∷ []) rest InpWord refl refl ends refl
+again PrintfWord rest form ends = word_again 112 (114 ∷ 105 ∷ 110 ∷ 116 ∷ 102 ∷ []) rest PrintfWord refl refl ends refl
 again (Number zero) rest form ends = ap (λ (ds : List ℕ). token_at (ds ++ rest)) (decimal_digit 0 (omega arith))
 again (Number (suc n)) rest form ends = digits_again (decimal (suc n)) rest (suc n) refl (omega arith) form (sym (cond-false (eqb (suc n) 0) false (begins_with is_digit rest) (ne_eqb (suc n) 0 (λ e. omega arith))) ∙ ends)
 again (Str bytes) rest form ends = string_again bytes rest form
+again LineFormat rest form ends = refl
 again OpenBracket rest form ends = refl
 again CloseBracket rest form ends = refl
 again OpenBrace rest form ends = refl
@@ -183,8 +186,11 @@ shows (Name (c ∷ cs)) rest form =
 shows IntWord rest form = refl
 shows OutWord rest form = refl
 shows InWord rest form = refl
+shows InpWord rest form = refl
+shows PrintfWord rest form = refl
 shows (Number value) rest form = digits_show (decimal value) rest value refl (omega arith)
 shows (Str bytes) rest form = refl
+shows LineFormat rest form = refl
 shows OpenBracket rest form = refl
 shows CloseBracket rest form = refl
 shows OpenBrace rest form = refl
@@ -248,9 +254,17 @@ word_sound w rest t word ends e =
                 elim (chosen (same_bytes w (codes "out")) (Some OutWord) _ (Some t) r.1) [
                   | inl a ↦ subst (IsWordOf w rest) (some_is OutWord t a.1) (record { whole = same_is w (codes "out") a.0; form = tt; longest = ends })
                   | inr q ↦
-                      elim (chosen (same_bytes w (codes "in")) (Some InWord) None (Some t) q.1) [
+                      elim (chosen (same_bytes w (codes "in")) (Some InWord) _ (Some t) q.1) [
                         | inl a ↦ subst (IsWordOf w rest) (some_is InWord t a.1) (record { whole = same_is w (codes "in") a.0; form = tt; longest = ends })
-                        | inr z ↦ absurd (none_is_not t z.1)
+                        | inr p ↦
+                            elim (chosen (same_bytes w (codes "inp")) (Some InpWord) _ (Some t) p.1) [
+                              | inl a ↦ subst (IsWordOf w rest) (some_is InpWord t a.1) (record { whole = same_is w (codes "inp") a.0; form = tt; longest = ends })
+                              | inr o ↦
+                                  elim (chosen (same_bytes w (codes "printf")) (Some PrintfWord) None (Some t) o.1) [
+                                    | inl a ↦ subst (IsWordOf w rest) (some_is PrintfWord t a.1) (record { whole = same_is w (codes "printf") a.0; form = tt; longest = ends })
+                                    | inr z ↦ absurd (none_is_not t z.1)
+                                  ]
+                            ]
                       ]
                 ]
           ]
@@ -303,16 +317,55 @@ number_reads d bytes x digit other e =
       | inr great ↦ absurd (none_is_not v.0 great.1)
     ]
 
+line_end_is : (behind rest : List ℕ) → after_line_end behind ≡ Some rest → behind ≡ 92 ∷ 110 ∷ 34 ∷ rest
+line_end_is [] rest e = absurd (none_is_not rest e)
+line_end_is (a ∷ []) rest e = absurd (none_is_not rest e)
+line_end_is (a ∷ b ∷ []) rest e = absurd (none_is_not rest e)
+line_end_is (a ∷ b ∷ c ∷ bytes) rest e =
+    elim (chosen (eqb a 92) _ None (Some rest) e) [
+      | inl first ↦
+          elim (chosen (eqb b 110) _ None (Some rest) first.1) [
+            | inl second ↦
+                elim (chosen (eqb c 34) (Some bytes) None (Some rest) second.1) [
+                  | inl third ↦
+                      ap (λ (x : ℕ). x ∷ b ∷ c ∷ bytes) (eqb-true a 92 first.0)
+                      ∙ ap (λ (x : ℕ). 92 ∷ x ∷ c ∷ bytes) (eqb-true b 110 second.0)
+                      ∙ ap (λ (x : ℕ). 92 ∷ 110 ∷ x ∷ bytes) (eqb-true c 34 third.0)
+                      ∙ ap (λ (x : List ℕ). 92 ∷ 110 ∷ 34 ∷ x) (some_is bytes rest third.1)
+                  | inr other ↦ absurd (none_is_not rest other.1)
+                ]
+            | inr other ↦ absurd (none_is_not rest other.1)
+          ]
+      | inr other ↦ absurd (none_is_not rest other.1)
+    ]
+
+line_some : (o : Option (List ℕ)) (x : Token × List ℕ) → option_map (λ r. (LineFormat, r)) o ≡ Some x → (r : List ℕ) × (o ≡ Some r) × ((LineFormat, r) ≡ x)
+line_some None x e = absurd (none_is_not x e)
+line_some (Some r) x e = (r, refl, some_is (LineFormat, r) x e)
+
+line_reads : (text behind : List ℕ) (x : Token × List ℕ) → line_format text behind ≡ Some x → Spelled (34 ∷ text ++ behind) x
+unfolding line_format
+line_reads text behind x e =
+    elim (chosen (same_bytes text (codes "%d")) (option_map (λ r. (LineFormat, r)) (after_line_end behind)) None (Some x) e) [
+      | inl same ↦
+          (let r = line_some (after_line_end behind) x same.1 in
+          let whole : 34 ∷ text ++ behind ≡ spelling LineFormat ++ r.0 =
+          ap (λ (y : List ℕ). 34 ∷ y ++ behind) (same_is text (codes "%d") same.0) ∙ ap (λ (y : List ℕ). 34 ∷ 37 ∷ 100 ∷ y) (line_end_is behind r.0 r.1) in
+          let made : Spelled (34 ∷ text ++ behind) (LineFormat, r.0) = record { whole = whole; form = tt; longest = tt } in
+          subst (Spelled (34 ∷ text ++ behind)) r.2 made)
+      | inr other ↦ absurd (none_is_not x other.1)
+    ]
+
 string_reads : (bytes text after : List ℕ) (x : Token × List ℕ) → list_all is_string_byte text ≡ true → text ++ after ≡ bytes → closed_string text after ≡ Some x → Spelled (34 ∷ bytes) x
 string_reads bytes text [] x all split e = absurd (none_is_not x e)
 string_reads bytes text (byte ∷ rest) x all split e =
-    elim (chosen (eqb byte 34) (Some (Str text, rest)) None (Some x) e) [
+    elim (chosen (eqb byte 34) (Some (Str text, rest)) _ (Some x) e) [
       | inl quote ↦
           (let q : byte ≡ 34 = eqb-true byte 34 quote.0 in
           let whole : 34 ∷ bytes ≡ (34 ∷ text ++ 34 ∷ []) ++ rest = ap (λ (y : List ℕ). 34 ∷ y) (sym split ∙ ap (λ (b : ℕ). text ++ b ∷ rest) q ∙ sym (append_assoc text (34 ∷ []) rest)) in
           let made : Spelled (34 ∷ bytes) (Str text, rest) = record { whole = whole; form = all; longest = tt } in
           subst (Spelled (34 ∷ bytes)) (some_is (Str text, rest) x quote.1) made)
-      | inr other ↦ absurd (none_is_not x other.1)
+      | inr other ↦ subst (λ (y : List ℕ). Spelled (34 ∷ y) x) split (line_reads text (byte ∷ rest) x other.1)
     ]
 
 -- a byte that is spelled as its token

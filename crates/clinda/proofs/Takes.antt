@@ -1,8 +1,8 @@
 -- Bytes that take tokens, one after the other, and steps that read one.
 use Rattle.std.proofs.Common.{◌≡◌, ℕ, List, [], ◌∷◌, ◌++◌, length, Option, Some, None, Result, Ok, Err, refl, sym, ap, subst, ◌∙◌}
-use Rattle.cl_model.specs.Tokens.{Token, OpenBracket, CloseBracket, OpenBrace, Semicolon, Splits}
+use Rattle.cl_model.specs.Tokens.{Token, OpenBracket, CloseBracket, OpenBrace, Comma, Semicolon, Splits}
 use Rattle.clinda.specs.ReadingTokens.{skip, token_at}
-use Rattle.clinda.specs.Reading.{◌>>=◌, taken, choose, chosen_at, open_bracket, close_bracket, open_brace, semicolon}
+use Rattle.clinda.specs.Reading.{◌>>=◌, taken, choose, chosen_at, open_bracket, close_bracket, open_brace, comma, semicolon}
 use Rattle.clinda.proofs.Lexer.{first_is_read, read_is_first, all_blank, blank_all}
 
 -- the bytes begin with these tokens, and this is behind them
@@ -74,6 +74,10 @@ open_brace_is : (t : Token) (u : Unit {0}) → open_brace t ≡ Some u → t ≡
 open_brace_is OpenBrace u e = refl
 open_brace_is _ u e = absurd cc
 
+comma_is : (t : Token) (u : Unit {0}) → comma t ≡ Some u → t ≡ Comma
+comma_is Comma u e = refl
+comma_is _ u e = absurd cc
+
 semicolon_is : (t : Token) (u : Unit {0}) → semicolon t ≡ Some u → t ≡ Semicolon
 semicolon_is Semicolon u e = refl
 semicolon_is _ u e = absurd cc
@@ -90,6 +94,9 @@ close_bracket_ok bytes y e = let t = chosen_ok close_bracket bytes y e in token_
 
 pub open_brace_ok : (bytes : List ℕ) (y : Unit {0} × List ℕ) → chosen_at open_brace bytes ≡ Ok y → token_at (skip bytes) ≡ Some (OpenBrace, y.1)
 open_brace_ok bytes y e = let t = chosen_ok open_brace bytes y e in token_was bytes y.1 t.0 OpenBrace t.1 (open_brace_is t.0 y.0 t.2)
+
+pub comma_ok : (bytes : List ℕ) (y : Unit {0} × List ℕ) → chosen_at comma bytes ≡ Ok y → token_at (skip bytes) ≡ Some (Comma, y.1)
+comma_ok bytes y e = let t = chosen_ok comma bytes y e in token_was bytes y.1 t.0 Comma t.1 (comma_is t.0 y.0 t.2)
 
 pub semicolon_ok : (bytes : List ℕ) (y : Unit {0} × List ℕ) → chosen_at semicolon bytes ≡ Ok y → token_at (skip bytes) ≡ Some (Semicolon, y.1)
 semicolon_ok bytes y e = let t = chosen_ok semicolon bytes y e in token_was bytes y.1 t.0 Semicolon t.1 (semicolon_is t.0 y.0 t.2)

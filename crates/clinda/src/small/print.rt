@@ -1,6 +1,7 @@
 //! Statements that print.
 
-ghost use Rattle.std.specs.Prelude.{◌≡◌, map};
+ghost use Rattle.std.specs.Prelude.{◌≡◌, ◌∷◌, [], map, IfOk};
+ghost use Rattle.cl_model.specs.Small.{declared_in};
 ghost use Rattle.cl_model.specs.SmallViews.{plain_item};
 ghost use Rattle.clinda.specs.Reading.{Gives, chosen_at, format_of, print_at};
 
@@ -35,7 +36,9 @@ fn next_format(bytes: &[u8]) -> Result<(Format, &[u8]), Stop>
 /// A `printf` behind its word, up to its `;`.
 #[tactic(auto, unfolding(crate::specs::Reading::print_at))]
 pub fn print<'a>(alloc: Global, known: &[&[u8]], bytes: &'a [u8]) -> Result<(Item, &'a [u8]), Stop>
-    ensures { Gives (λ x. (plain_item x.0, x.1.now)) result (print_at (map (λ n. n.now) known.now) bytes.now) }
+    ensures item { Gives (λ x. (plain_item x.0, x.1.now)) result (print_at (map (λ n. n.now) known.now) bytes.now) }
+    // It declares no name.
+    ensures names { IfOk result (λ x. declared_in (plain_item x.0 ∷ []) ≡ []) }
 {
     let rest = after_open_bracket(bytes)?;
     let (format, rest) = next_format(rest)?;

@@ -5,5 +5,5 @@ use Rattle.clinda.proofs.small.piece.pieces.Given as goal
 
 abbrev pub invariant-loop : goal.invariant-loop
 invariant-loop l =
-    let one = piece_at l.asks (map (λ n. n.now) l.known) in
+    let one = piece_at l.makes (map (λ n. n.now) l.known) in
     list_at (λ before. one) goes_on (16 - l.counter) (map plain_piece l.pieces.items) l.rest ≡ list_at (λ before. one) goes_on 16 [] l.bytes
