@@ -305,18 +305,17 @@ print_sound known bytes y e =
     let s = chosen_ok format_of a.0.1 b.0 b.1 in
     let t = chosen_ok (known_name known) c.0.1 d.0 d.1 in
     let n = known_name_is known t.0 d.0.0 t.2 in
+    let ended : Takes f.0.1 (Semicolon ∷ []) g.0.1 = (g.0.1, semicolon_ok f.0.1 g.0 g.1, refl) in
+    let closed : Takes d.0.1 (CloseBracket ∷ Semicolon ∷ []) g.0.1 = (f.0.1, close_bracket_ok d.0.1 f.0 f.1, ended) in
+    let named : Takes c.0.1 (Name d.0.0 ∷ CloseBracket ∷ Semicolon ∷ []) g.0.1 = (d.0.1, token_was c.0.1 d.0.1 t.0 (Name d.0.0) t.1 n.token, closed) in
+    let parted : Takes b.0.1 (Comma ∷ Name d.0.0 ∷ CloseBracket ∷ Semicolon ∷ []) g.0.1 = (c.0.1, comma_ok b.0.1 c.0 c.1, named) in
+    let formatted : Takes a.0.1 (format_token b.0.0 ∷ Comma ∷ Name d.0.0 ∷ CloseBracket ∷ Semicolon ∷ []) g.0.1 = (b.0.1, token_was a.0.1 b.0.1 s.0 (format_token b.0.0) s.1 (format_is s.0 b.0.0 s.2), parted) in
     let made : PrintIs known bytes (Print b.0.0 d.0.0, g.0.1) =
     record {
       format = b.0.0;
       name = d.0.0;
       item = refl;
-      takes =
-        (a.0.1, open_bracket_ok bytes a.0 a.1,
-        (b.0.1, token_was a.0.1 b.0.1 s.0 (format_token b.0.0) s.1 (format_is s.0 b.0.0 s.2),
-        (c.0.1, comma_ok b.0.1 c.0 c.1,
-        (d.0.1, token_was c.0.1 d.0.1 t.0 (Name d.0.0) t.1 n.token,
-        (f.0.1, close_bracket_ok d.0.1 f.0 f.1,
-        (g.0.1, semicolon_ok f.0.1 g.0 g.1, refl))))));
+      takes = (a.0.1, open_bracket_ok bytes a.0 a.1, formatted);
       old = n.old;
     } in
     subst (PrintIs known bytes) (ok_is (Print b.0.0 d.0.0, g.0.1) y g.2) made
