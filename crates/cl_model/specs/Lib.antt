@@ -10,3 +10,4 @@ pub mod SmallMeaning
 pub mod Commands
 pub mod Refusals
 pub mod Alone
+pub mod Places

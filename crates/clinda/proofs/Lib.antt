@@ -10,6 +10,8 @@ pub mod PieceReads
 pub mod ItemReads
 pub mod UnitReads
 pub mod Within
+pub mod PlaceSteps
+pub mod PlaceReads
 pub mod Numbers
 pub mod Sayings
 pub mod Clauses
