@@ -25,7 +25,7 @@ front_fails p byte bytes f = rw f refl
 after_fails : (p : ℕ → Bool) (byte : ℕ) (bytes : List ℕ) → p byte ≡ false → after_run p (byte ∷ bytes) ≡ byte ∷ bytes
 after_fails p byte bytes f = rw f refl
 
-front_all : (p : ℕ → Bool) (bytes : List ℕ) → list_all p (front_run p bytes) ≡ true
+pub front_all : (p : ℕ → Bool) (bytes : List ℕ) → list_all p (front_run p bytes) ≡ true
 front_all p [] = refl
 front_all p (byte ∷ bytes) =
     elim (cases_Bool (p byte)) [
@@ -33,7 +33,7 @@ front_all p (byte ∷ bytes) =
       | inr f ↦ ap (list_all p) (front_fails p byte bytes f)
     ]
 
-after_begins : (p : ℕ → Bool) (bytes : List ℕ) → begins_with p (after_run p bytes) ≡ false
+pub after_begins : (p : ℕ → Bool) (bytes : List ℕ) → begins_with p (after_run p bytes) ≡ false
 after_begins p [] = refl
 after_begins p (byte ∷ bytes) =
     elim (cases_Bool (p byte)) [

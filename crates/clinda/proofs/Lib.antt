@@ -12,6 +12,8 @@ pub mod UnitReads
 pub mod Within
 pub mod PlaceSteps
 pub mod PlaceReads
+pub mod PlaceUnits
+pub mod PlaceLaws
 pub mod Numbers
 pub mod Sayings
 pub mod Clauses

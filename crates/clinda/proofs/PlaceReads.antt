@@ -43,7 +43,7 @@ no_open_bracket : (told : Told) (last : Option Token) (t : Token) → open_brack
 no_open_bracket told last OpenBracket e = absurd cc
 no_open_bracket told last _ e = refl
 
-accepts_open_bracket : (told : Told) → Accepts (Unit {0}) open_bracket is_open_bracket told
+pub accepts_open_bracket : (told : Told) → Accepts (Unit {0}) open_bracket is_open_bracket told
 accepts_open_bracket told = record { yes = yes_open_bracket told; no = no_open_bracket told }
 
 yes_close_bracket : (told : Told) (last : Option Token) (t : Token) (x : Unit {0}) → close_bracket t ≡ Some x → is_close_bracket t && keeps_limits (here told last) t ≡ true
@@ -54,7 +54,7 @@ no_close_bracket : (told : Told) (last : Option Token) (t : Token) → close_bra
 no_close_bracket told last CloseBracket e = absurd cc
 no_close_bracket told last _ e = refl
 
-accepts_close_bracket : (told : Told) → Accepts (Unit {0}) close_bracket is_close_bracket told
+pub accepts_close_bracket : (told : Told) → Accepts (Unit {0}) close_bracket is_close_bracket told
 accepts_close_bracket told = record { yes = yes_close_bracket told; no = no_close_bracket told }
 
 yes_open_brace : (told : Told) (last : Option Token) (t : Token) (x : Unit {0}) → open_brace t ≡ Some x → is_open_brace t && keeps_limits (here told last) t ≡ true
@@ -65,7 +65,7 @@ no_open_brace : (told : Told) (last : Option Token) (t : Token) → open_brace t
 no_open_brace told last OpenBrace e = absurd cc
 no_open_brace told last _ e = refl
 
-accepts_open_brace : (told : Told) → Accepts (Unit {0}) open_brace is_open_brace told
+pub accepts_open_brace : (told : Told) → Accepts (Unit {0}) open_brace is_open_brace told
 accepts_open_brace told = record { yes = yes_open_brace told; no = no_open_brace told }
 
 yes_comma : (told : Told) (last : Option Token) (t : Token) (x : Unit {0}) → comma t ≡ Some x → is_comma t && keeps_limits (here told last) t ≡ true
