@@ -9,13 +9,15 @@ use Rattle.cl_outside.specs.Streams.{TakesAll, GivesAll, Loses, Drops, Appends}
 use Rattle.cl_model.specs.Commands.{Command, Spells, SpellsNone}
 use Rattle.cl_model.specs.Ends.{Stuck}
 use Rattle.cl_model.specs.Good.{Turns, EndsAgree, AllEnded, SomeWait, status_of, some_failure}
+use Rattle.cl_model.specs.Places.{IsRefusedAt}
 use Rattle.cl_model.specs.Refusals.{words_refused, too_large, not_built}
 use Rattle.cl_model.specs.Small.{PlainItem, Accepted}
 use Rattle.cl_model.specs.SmallMeaning.{small_demands}
 use Rattle.clinda.specs.Leaving.{IsRunStatus}
 use Rattle.clinda.specs.Answering.{Outside, SaysNothing, HasNoUnit, HasUnit, IsRun, text_of, Told, Untold, Reported, Unreported, Shown, Unshown, Judged, Accepts, Refuses, Unjudged, Read, Failed, Larger, NoRoom, All, Answered, NoCommand, Commanded}
-use Rattle.clinda.specs.Top.{Says, WordsClause, ReadClause, TooLargeClause, JudgesSource, SourceClause, Writes, WrittenClause, IsSource, RunClause, TellsStuck, StuckClause, HaltedClause, ReadFaultClause, WriteFaultClause, IsText, OfWords, OfLarge, OfSource, OfRun, WritesFront, MemoryClause, Reports, ReportClause}
-use Rattle.clinda.proofs.Sayings.{said_status, said_kept, said_rose, said_front, said_whole}
+use Rattle.clinda.specs.Top.{Says, WordsClause, ReadClause, TooLargeClause, RefusesSource, JudgesSource, SourceClause, Writes, WrittenClause, IsSource, RunClause, TellsStuck, StuckClause, HaltedClause, ReadFaultClause, WriteFaultClause, IsText, OfWords, OfLarge, OfSource, OfRun, WritesFront, MemoryClause, Reports, ReportClause}
+use Rattle.clinda.proofs.PlaceLaws.{refused_once, refused_has_none}
+use Rattle.clinda.proofs.Sayings.{said_status, said_kept, said_rose, said_front, said_all, said_whole}
 
 -- a command read a source of this length, all of it, and no read failed
 pub record ReadAll (words : List (List ℕ)) (source : List ℕ) (before after : Outside) : Type 0 where
@@ -31,7 +33,7 @@ pub data Way (words : List (List ℕ)) (status : ℕ) (report : Option PlainRun)
   Fault : status ≡ 4 → report ≡ None → Rose before.read_faults after.read_faults → SaysNothing before after → (c : Command) → Spells words c → Way words status report before after
   Memory : status ≡ 8 → report ≡ None → after.read_faults ≡ before.read_faults → SaysNothing before after → (c : Command) → Spells words c → Way words status report before after
   Large : Loses 1048577 before.left after.left → after.read_faults ≡ before.read_faults → report ≡ None → Says too_large 2 status before after → (c : Command) → Spells words c → Way words status report before after
-  Source : (source : List ℕ) → ReadAll words source before after → HasNoUnit source → report ≡ None → (place : ℕ) → place ≤ length source → Says (not_built source place) 2 status before after → Way words status report before after
+  Source : (source : List ℕ) → ReadAll words source before after → HasNoUnit source → report ≡ None → (place : ℕ) → IsRefusedAt source place → Says (not_built source place) 2 status before after → Way words status report before after
   Runs : (source : List ℕ) → ReadAll words source before after → (items : List PlainItem) → HasUnit source items → (run : PlainRun) → report ≡ Some run → IsRun items run → Says (text_of items run) run.status status before after → Way words status report before after
   Silent : (source : List ℕ) → ReadAll words source before after → (items : List PlainItem) → HasUnit source items → (run : PlainRun) → report ≡ Some run → IsRun items run → status ≡ 8 → SaysNothing before after → Way words status report before after
 
@@ -40,8 +42,8 @@ module _ (words : List (List ℕ)) (status : ℕ) (report : Option PlainRun) (be
   way_of_judged c sp source few all kept (Accepts items unit (Reported run told is (Told said))) = Runs source (record { command = c; spelled = sp; few = few; all = all; kept = kept }) items unit run told is said
   way_of_judged c sp source few all kept (Accepts items unit (Reported run told is (Untold eight same quiet))) = Silent source (record { command = c; spelled = sp; few = few; all = all; kept = kept }) items unit run told is eight (record { same = same; quiet = quiet })
   way_of_judged c sp source few all kept (Accepts items unit (Unreported none eight same quiet)) = Memory eight none kept (record { same = same; quiet = quiet }) c sp
-  way_of_judged c sp source few all kept (Refuses lacks none place within (Shown said)) = Source source (record { command = c; spelled = sp; few = few; all = all; kept = kept }) lacks none place within said
-  way_of_judged c sp source few all kept (Refuses lacks none place within (Unshown eight same quiet)) = Memory eight none kept (record { same = same; quiet = quiet }) c sp
+  way_of_judged c sp source few all kept (Refuses lacks none place first (Shown said)) = Source source (record { command = c; spelled = sp; few = few; all = all; kept = kept }) lacks none place first said
+  way_of_judged c sp source few all kept (Refuses lacks none place first (Unshown eight same quiet)) = Memory eight none kept (record { same = same; quiet = quiet }) c sp
   way_of_judged c sp source few all kept (Unjudged none eight same quiet) = Memory eight none kept (record { same = same; quiet = quiet }) c sp
 
   way_of_read : (c : Command) → Spells words c → Read status report before after → Way words status report before after
@@ -81,7 +83,7 @@ module _ (words : List (List ℕ)) (status : ℕ) (report : Option PlainRun) (be
   words_clause (Fault four none rose silent c sp) = record { refused = λ w. absurd (w c sp); only = λ one. absurd (omega (arith, one, four)) }
   words_clause (Memory eight none kept silent c sp) = record { refused = λ w. absurd (w c sp); only = λ one. absurd (omega (arith, one, eight)) }
   words_clause (Large loses kept none said c sp) = record { refused = λ w. absurd (w c sp); only = λ one. absurd (two_status status 1 (said_status said) one (λ e. absurd (omega (arith, e))) (λ e. absurd (omega (arith, e)))) }
-  words_clause (Source source r lacks none place within said) = record { refused = λ w. absurd (w r.command r.spelled); only = λ one. absurd (two_status status 1 (said_status said) one (λ e. absurd (omega (arith, e))) (λ e. absurd (omega (arith, e)))) }
+  words_clause (Source source r lacks none place first said) = record { refused = λ w. absurd (w r.command r.spelled); only = λ one. absurd (two_status status 1 (said_status said) one (λ e. absurd (omega (arith, e))) (λ e. absurd (omega (arith, e)))) }
   words_clause (Runs source r items unit run told is said) =
       record { refused = λ w. absurd (w r.command r.spelled); only = λ one. absurd (run_status status run.status 1 is.status (said_status said) one (λ e. absurd (omega (arith, e))) (λ e. absurd (omega (arith, e))) (λ e. absurd (omega (arith, e))) (λ e. absurd (omega (arith, e)))) }
   words_clause (Silent source r items unit run told is eight silent) = record { refused = λ w. absurd (w r.command r.spelled); only = λ one. absurd (omega (arith, one, eight)) }
@@ -98,7 +100,7 @@ module _ (words : List (List ℕ)) (status : ℕ) (report : Option PlainRun) (be
   read_clause (Fault four none rose silent c sp) reads = absurd (not_both _ _ rose reads.quiet)
   read_clause (Memory eight none kept silent c sp) reads = absurd (reads.memory eight none)
   read_clause (Large loses kept none said c sp) reads = if_some before.left _ _ (λ bytes (d : Drops 1048577 bytes after.left). d.rest) loses
-  read_clause (Source source r lacks none place within said) reads = all_read source r
+  read_clause (Source source r lacks none place first said) reads = all_read source r
   read_clause (Runs source r items unit run told is said) reads = all_read source r
   read_clause (Silent source r items unit run told is eight silent) reads = all_read source r
 
@@ -111,7 +113,7 @@ module _ (words : List (List ℕ)) (status : ℕ) (report : Option PlainRun) (be
   too_large_clause (Fault four none rose silent c sp) reads = absurd (not_both _ _ rose reads.quiet)
   too_large_clause (Memory eight none kept silent c sp) reads = absurd (reads.memory eight none)
   too_large_clause (Large loses kept none said c sp) reads = if_some before.left _ _ (λ bytes (d : Drops 1048577 bytes after.left) _. (none, said)) loses
-  too_large_clause (Source source r lacks none place within said) reads = not_large source _ r
+  too_large_clause (Source source r lacks none place first said) reads = not_large source _ r
   too_large_clause (Runs source r items unit run told is said) reads = not_large source _ r
   too_large_clause (Silent source r items unit run told is eight silent) reads = not_large source _ r
 
@@ -177,30 +179,31 @@ module _ (words : List (List ℕ)) (status : ℕ) (report : Option PlainRun) (be
   too_many : (P : List ℕ → Type 0) → Loses 1048577 before.left after.left → ((bytes : List ℕ) → 1048576 < length bytes → P bytes) → IfSome before.left P
   too_many P loses f = if_some before.left _ _ (λ bytes (d : Drops 1048577 bytes after.left). f bytes (omega (arith, d.some))) loses
 
+  judges : (source : List ℕ) → (HasNoUnit source → RefusesSource source status report before after) → (status ≡ 2 → HasNoUnit source) → JudgesSource source status report before after
+  judges source refused only = record { refused = refused; only = only; none = λ place first. refused_has_none source place first; once = λ place other first second. refused_once source place other first second }
+
   pub source_clause : Way words status report before after → SourceClause words status report before after
   source_clause (Words none left kept lacks said) reads = absurd (none reads.command reads.spelled)
   source_clause (Fault four none rose silent c sp) reads = absurd (not_both _ _ rose reads.quiet)
   source_clause (Memory eight none kept silent c sp) reads = absurd (reads.memory eight none)
   source_clause (Large loses kept none said c sp) reads = too_many _ loses (λ bytes large few. absurd (omega (arith, large, few)))
-  source_clause (Source source r lacks none place within said) reads =
+  source_clause (Source source r lacks none place first said) reads =
       of_source source (λ bytes. length bytes ≤ 1048576 → JudgesSource bytes status report before after) r
-      (λ _. record { refused = λ _. record { no_run = none; place = place; within = within; said = said }; only = λ _. lacks })
+      (λ _. judges source (λ _. record { no_run = none; place = place; first = first; said = said }) (λ _. lacks))
   source_clause (Runs source r items unit run told is said) reads =
       of_source source (λ bytes. length bytes ≤ 1048576 → JudgesSource bytes status report before after) r
-      (λ _. record {
-        refused = λ lacks. absurd (lacks items unit.accepted);
-        only = λ two. absurd (run_status status run.status 2 is.status (said_status said) two (λ e. absurd (omega (arith, e))) (λ e. absurd (omega (arith, e))) (λ e. absurd (omega (arith, e))) (λ e. absurd (omega (arith, e))));
-      })
+      (λ _. judges source (λ lacks. absurd (lacks items unit.accepted))
+      (λ two. absurd (run_status status run.status 2 is.status (said_status said) two (λ e. absurd (omega (arith, e))) (λ e. absurd (omega (arith, e))) (λ e. absurd (omega (arith, e))) (λ e. absurd (omega (arith, e))))))
   source_clause (Silent source r items unit run told is eight silent) reads =
       of_source source (λ bytes. length bytes ≤ 1048576 → JudgesSource bytes status report before after) r
-      (λ _. record { refused = λ lacks. absurd (lacks items unit.accepted); only = λ two. absurd (omega (arith, two, eight)) })
+      (λ _. judges source (λ lacks. absurd (lacks items unit.accepted)) (λ two. absurd (omega (arith, two, eight))))
 
   pub written_clause : Way words status report before after → WrittenClause words status report before after
   written_clause (Words none left kept lacks said) reads quiet other = absurd (none reads.command reads.spelled)
   written_clause (Fault four none rose silent c sp) reads quiet other = absurd (not_both _ _ rose reads.quiet)
   written_clause (Memory eight none kept silent c sp) reads quiet other = absurd (other eight)
   written_clause (Large loses kept none said c sp) reads quiet other = too_many _ loses (λ bytes large items a. absurd (omega (arith, large, a.size)))
-  written_clause (Source source r lacks none place within said) reads quiet other =
+  written_clause (Source source r lacks none place first said) reads quiet other =
       of_source source (λ bytes. (items : List PlainItem) → Accepted bytes items → IsSomeAnd report (Writes items status before after)) r (λ items a. absurd (lacks items a))
   written_clause (Runs source r items unit run told is said) reads quiet other =
       of_source source (λ bytes. (others : List PlainItem) → Accepted bytes others → IsSomeAnd report (Writes others status before after)) r
@@ -215,7 +218,7 @@ module _ (words : List (List ℕ)) (status : ℕ) (report : Option PlainRun) (be
   run_clause (Fault four none rose silent c sp) = if_none report _ none
   run_clause (Memory eight none kept silent c sp) = if_none report _ none
   run_clause (Large loses kept none said c sp) = if_none report _ none
-  run_clause (Source source r lacks none place within said) = if_none report _ none
+  run_clause (Source source r lacks none place first said) = if_none report _ none
   run_clause (Runs source r items unit run told is said) =
       if_report report run _ told (record { source = source; items = items; bytes = is_source source r; accepted = unit.accepted; good = is.good })
   run_clause (Silent source r items unit run told is eight silent) =
@@ -242,7 +245,7 @@ module _ (words : List (List ℕ)) (status : ℕ) (report : Option PlainRun) (be
   stuck_clause (Fault four none rose silent c sp) = record { reported = λ seven. absurd (omega (arith, seven, four)); exact = not_stuck none }
   stuck_clause (Memory eight none kept silent c sp) = record { reported = λ seven. absurd (omega (arith, seven, eight)); exact = not_stuck none }
   stuck_clause (Large loses kept none said c sp) = record { reported = λ seven. absurd (two_status status 7 (said_status said) seven (λ e. absurd (omega (arith, e))) (λ e. absurd (omega (arith, e)))); exact = not_stuck none }
-  stuck_clause (Source source r lacks none place within said) = record { reported = λ seven. absurd (two_status status 7 (said_status said) seven (λ e. absurd (omega (arith, e))) (λ e. absurd (omega (arith, e)))); exact = not_stuck none }
+  stuck_clause (Source source r lacks none place first said) = record { reported = λ seven. absurd (two_status status 7 (said_status said) seven (λ e. absurd (omega (arith, e))) (λ e. absurd (omega (arith, e)))); exact = not_stuck none }
   stuck_clause (Runs source r items unit run told is said) = record { reported = λ _. is_report report run told; exact = of_report source r items unit run told (tells_stuck items status run is (inl (said_status said))) }
   stuck_clause (Silent source r items unit run told is eight silent) = record { reported = λ _. is_report report run told; exact = of_report source r items unit run told (tells_stuck items status run is (inr eight)) }
 
@@ -256,7 +259,7 @@ module _ (words : List (List ℕ)) (status : ℕ) (report : Option PlainRun) (be
   no_status n (Fault is none rose silent c sp) e zero one two four five seven eight = four (sym e ∙ is)
   no_status n (Memory is none kept silent c sp) e zero one two four five seven eight = eight (sym e ∙ is)
   no_status n (Large loses kept none said c sp) e zero one two four five seven eight = two_status status n (said_status said) e two five
-  no_status n (Source source r lacks none place within said) e zero one two four five seven eight = two_status status n (said_status said) e two five
+  no_status n (Source source r lacks none place first said) e zero one two four five seven eight = two_status status n (said_status said) e two five
   no_status n (Runs source r items unit run told is said) e zero one two four five seven eight = run_status status run.status n is.status (said_status said) e zero seven eight five
   no_status n (Silent source r items unit run told is at silent) e zero one two four five seven eight = eight (sym e ∙ at)
 
@@ -276,7 +279,7 @@ module _ (words : List (List ℕ)) (status : ℕ) (report : Option PlainRun) (be
   read_fault_clause (Fault four none rose silent c sp) = record { rose = λ _. rose; unwritten = λ _. silent.same; no_run = λ _. none; kept = λ other. absurd (other four) }
   read_fault_clause (Memory eight none kept silent c sp) = unfaulted kept (λ four. absurd (omega (arith, four, eight)))
   read_fault_clause (Large loses kept none said c sp) = unfaulted kept (λ four. two_status status 4 (said_status said) four (λ h. absurd (omega (arith, h))) (λ h. absurd (omega (arith, h))))
-  read_fault_clause (Source source r lacks none place within said) = unfaulted r.kept (λ four. two_status status 4 (said_status said) four (λ h. absurd (omega (arith, h))) (λ h. absurd (omega (arith, h))))
+  read_fault_clause (Source source r lacks none place first said) = unfaulted r.kept (λ four. two_status status 4 (said_status said) four (λ h. absurd (omega (arith, h))) (λ h. absurd (omega (arith, h))))
   read_fault_clause (Runs source r items unit run told is said) =
       unfaulted r.kept (λ four. run_status status run.status 4 is.status (said_status said) four (λ h. absurd (omega (arith, h))) (λ h. absurd (omega (arith, h))) (λ h. absurd (omega (arith, h))) (λ h. absurd (omega (arith, h))))
   read_fault_clause (Silent source r items unit run told is eight silent) = unfaulted r.kept (λ four. absurd (omega (arith, four, eight)))
@@ -294,7 +297,7 @@ module _ (words : List (List ℕ)) (status : ℕ) (report : Option PlainRun) (be
   write_fault_clause (Fault four none rose silent c sp) = silent_writes silent (λ five. absurd (omega (arith, five, four)))
   write_fault_clause (Memory eight none kept silent c sp) = silent_writes silent (λ five. absurd (omega (arith, five, eight)))
   write_fault_clause (Large loses kept none said c sp) = record { rose = said_rose said (λ h. absurd (omega (arith, h))); kept = said_kept said }
-  write_fault_clause (Source source r lacks none place within said) = record { rose = said_rose said (λ h. absurd (omega (arith, h))); kept = said_kept said }
+  write_fault_clause (Source source r lacks none place first said) = record { rose = said_rose said (λ h. absurd (omega (arith, h))); kept = said_kept said }
   write_fault_clause (Runs source r items unit run told is said) = record { rose = said_rose said (run_is_no_five run.status is.status); kept = said_kept said }
   write_fault_clause (Silent source r items unit run told is eight silent) = silent_writes silent (λ five. absurd (omega (arith, five, eight)))
 
@@ -309,11 +312,6 @@ module _ (words : List (List ℕ)) (status : ℕ) (report : Option PlainRun) (be
   without_text : report ≡ None → (status ≡ 5 → ⊥) → SaysNothing before after → MemoryClause words status report before after
   without_text none other silent = record { fault = λ five. absurd (other five); memory = λ _ some. absurd (no_report report none some); nothing = λ _ _. silent.same }
 
-  -- nothing of a text is a front of it
-  front_of_nothing : (o p : Option (List ℕ)) (text : List ℕ) → p ≡ o → Appends o (take 0 text) p
-  front_of_nothing None p text same = tt
-  front_of_nothing (Some old) p text same = same ∙ ap (λ bytes. Some bytes) (sym (append-nil old))
-
   pub memory_clause : Way words status report before after → MemoryClause words status report before after
   memory_clause (Words none left kept lacks said) =
       without_run lacks (λ eight. not_said_one 8 (said_status said) eight (λ h. absurd (omega (arith, h))) (λ h. absurd (omega (arith, h)))) (fronts words_refused (OfWords none refl) said)
@@ -322,28 +320,24 @@ module _ (words : List (List ℕ)) (status : ℕ) (report : Option PlainRun) (be
   memory_clause (Large loses kept none said c sp) =
       without_run none (λ eight. two_status status 8 (said_status said) eight (λ h. absurd (omega (arith, h))) (λ h. absurd (omega (arith, h))))
       (fronts too_large (OfLarge (too_many (λ source. 1048576 < length source) loses (λ bytes large. large)) refl) said)
-  memory_clause (Source source r lacks none place within said) =
+  memory_clause (Source source r lacks none place first said) =
       without_run none (λ eight. two_status status 8 (said_status said) eight (λ h. absurd (omega (arith, h))) (λ h. absurd (omega (arith, h))))
-      (fronts (not_built source place) (OfSource source (is_source source r) lacks place within refl) said)
+      (fronts (not_built source place) (OfSource source (is_source source r) lacks place first refl) said)
   memory_clause (Runs source r items unit run told is said) =
-      let front = fronts (text_of items run) (OfRun source items run (is_source source r) unit.accepted told refl) said in
-      record { fault = λ _. front; memory = λ _ _. front; nothing = λ _ none. absurd (no_report report none (is_report report run told)) }
-  memory_clause (Silent source r items unit run told is eight silent) =
-      let front : WritesFront words report before after =
+      let is_text : IsText words report before (text_of items run) = OfRun source items run (is_source source r) unit.accepted told refl in
       record {
-        text = text_of items run;
-        is_text = OfRun source items run (is_source source r) unit.accepted told refl;
-        count = 0;
-        within = omega arith;
-        front = front_of_nothing before.written after.written (text_of items run) silent.same;
-      } in
-      record { fault = λ five. absurd (omega (arith, five, eight)); memory = λ _ _. front; nothing = λ _ none. absurd (no_report report none (is_report report run told)) }
+        fault = λ _. fronts (text_of items run) is_text said;
+        memory = λ eight _. inl (record { text = text_of items run; is_text = is_text; whole = said_all said (λ five. absurd (omega (arith, five, eight))) });
+        nothing = λ _ none. absurd (no_report report none (is_report report run told));
+      }
+  memory_clause (Silent source r items unit run told is eight silent) =
+      record { fault = λ five. absurd (omega (arith, five, eight)); memory = λ _ _. inr silent.same; nothing = λ _ none. absurd (no_report report none (is_report report run told)) }
 
   pub report_clause : Way words status report before after → ReportClause words status report before after
   report_clause (Words none left kept lacks said) reads other = absurd (none reads.command reads.spelled)
   report_clause (Fault four none rose silent c sp) reads other = absurd (not_both _ _ rose reads.quiet)
   report_clause (Memory eight none kept silent c sp) reads other = absurd (other eight)
   report_clause (Large loses kept none said c sp) reads other = too_many (λ source. Reports source report) loses (λ bytes large. record { run = λ some. absurd (no_report report none some); there = λ items a. absurd (omega (arith, large, a.size)) })
-  report_clause (Source source r lacks none place within said) reads other = of_source source (λ bytes. Reports bytes report) r (record { run = λ some. absurd (no_report report none some); there = λ items a. absurd (lacks items a) })
+  report_clause (Source source r lacks none place first said) reads other = of_source source (λ bytes. Reports bytes report) r (record { run = λ some. absurd (no_report report none some); there = λ items a. absurd (lacks items a) })
   report_clause (Runs source r items unit run told is said) reads other = of_source source (λ bytes. Reports bytes report) r (record { run = λ _. (items, unit.accepted); there = λ _ _. is_report report run told })
   report_clause (Silent source r items unit run told is eight silent) reads other = absurd (other eight)

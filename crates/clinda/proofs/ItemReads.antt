@@ -13,7 +13,7 @@ use Rattle.clinda.specs.Reading.{◌>>=◌, chosen_at, open_bracket, close_brack
 use Rattle.clinda.proofs.Runs.{same_is}
 use Rattle.clinda.proofs.Lexer.{chosen}
 use Rattle.clinda.proofs.Loops.{declared_last, operations_last, prints_last}
-use Rattle.clinda.proofs.Takes.{Takes, Takes-join, Takes-split, splits_from, takes_from, done, ok_is, bind_ok, some, some_is, chosen_ok, chosen_again, token_was, open_bracket_ok, close_bracket_ok, open_brace_ok}
+use Rattle.clinda.proofs.Takes.{Takes, Takes-join, Takes-split, splits_from, takes_from, done, ok_is, bind_ok, some, some_is, none_is_not, chosen_ok, chosen_again, token_was, open_bracket_ok, close_bracket_ok, open_brace_ok}
 use Rattle.clinda.proofs.PieceReads.{names_sound, names_again, operation_sound, operation_again, print_sound, print_again}
 
 -- ---- rules of an item before others
@@ -181,12 +181,6 @@ Begins operations prints t starts.Out = (t ≡ OutWord) × (operations < 1024)
 Begins operations prints t starts.In = (t ≡ InWord) × (operations < 1024)
 Begins operations prints t starts.Inp = (t ≡ InpWord) × (operations < 1024)
 Begins operations prints t starts.Print = (t ≡ PrintfWord) × (prints < 1024)
-
-abbrev nothing : {A : Type 0} → Option A
-nothing = None
-
-none_is_not : {A : Type 0} (y : A) → nothing ≡ some y → ⊥
-none_is_not y e = cc
 
 begins_so : (operations prints : ℕ) (t : Token) (s : Start) → item_start operations prints t ≡ Some s → Begins operations prints t s
 begins_so operations prints CloseBrace s e = subst (Begins operations prints CloseBrace) (some_is starts.Close s e) refl

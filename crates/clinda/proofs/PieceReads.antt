@@ -13,7 +13,7 @@ use Rattle.clinda.specs.ReadingTokens.{skip, token_at}
 use Rattle.clinda.specs.Reading.{◌>>=◌, chosen_at, open_bracket, close_bracket, comma, semicolon, goes_on, names_go_on, new_name, known_name, piece_start, formal_at, piece_from, piece_at, name_at, names_at, pieces_at, operation_at, format_of, print_at}
 use Rattle.clinda.proofs.Runs.{same_is}
 use Rattle.clinda.proofs.Lexer.{chosen}
-use Rattle.clinda.proofs.Takes.{Takes, Takes-join, Takes-split, done, ok_is, bind_ok, some, some_is, chosen_ok, chosen_again, token_was, open_bracket_ok, close_bracket_ok, comma_ok, semicolon_ok}
+use Rattle.clinda.proofs.Takes.{Takes, Takes-join, Takes-split, done, ok_is, bind_ok, some, some_is, none_is_not, chosen_ok, chosen_again, token_was, open_bracket_ok, close_bracket_ok, comma_ok, semicolon_ok}
 use Rattle.clinda.proofs.ListReads.{Reads, Joins, more_tokens, keep, list_sound, list_complete}
 
 -- ---- names
@@ -31,12 +31,6 @@ name_tokens name = Name name ∷ []
 
 abbrev pub is_new : List (List ℕ) → List (List ℕ) → List ℕ → Bool
 is_new known before name = not (is_known (known ++ before) name)
-
-abbrev nothing : {A : Type 0} → Option A
-nothing = None
-
-none_is_not : {A : Type 0} (y : A) → nothing ≡ some y → ⊥
-none_is_not y e = cc
 
 -- the token was a name, and passes the test
 record IsNewName (known : List (List ℕ)) (t : Token) (name : List ℕ) : Type 0 where

@@ -12,23 +12,12 @@ use Rattle.clinda.specs.Reading.{◌>>=◌, chosen_at, open_bracket, close_brack
 use Rattle.clinda.proofs.Lexer.{chosen, after_begins, after_whole, front_all, first_is_read, read_is_first}
 use Rattle.clinda.proofs.ItemReads.{unit_again}
 use Rattle.clinda.proofs.Within.{unit_left}
+use Rattle.clinda.proofs.Takes.{some_is, none_is_not, some_is_not}
 use Rattle.clinda.proofs.PlaceSteps.{Refused, skip_again, Told, Is, Accepts, here, leads_by}
 use Rattle.clinda.proofs.PlaceReads.{accepts_open_bracket, accepts_close_bracket, accepts_open_brace}
 use Rattle.clinda.proofs.PlaceUnits.{AtItem, Inside, Closed, items_leads, Whole, UnitLeads, Ends, bind_ends}
 
 -- ---- reading a whole source
-
-abbrev nothing : {A : Type 0} → Option A
-nothing = None
-
-abbrev just : {A : Type 0} → A → Option A
-just x = Some x
-
-nothing_is_not : {A : Type 0} (y : A) → nothing ≡ just y → ⊥
-nothing_is_not y e = cc
-
-just_is_not : {A : Type 0} (x : A) → just x ≡ nothing → ⊥
-just_is_not x e = cc
 
 abbrev in_head : Told
 in_head = record { statement = Head; names = []; pieces = 0; operations = 0; prints = 0 }
@@ -37,14 +26,14 @@ yes_main : (last : Option Token) (t : Token) (x : Unit {0}) → main_name t ≡ 
 yes_main last (Name n) x e =
     elim (chosen (same_bytes n (codes "real_main")) (Some tt) None (Some x) e) [
       | inl same ↦ ap (λ (b : Bool). b && true) same.0
-      | inr other ↦ absurd (nothing_is_not x other.1)
+      | inr other ↦ absurd (none_is_not x other.1)
     ]
 yes_main last _ x e = absurd cc
 
 no_main : (last : Option Token) (t : Token) → main_name t ≡ None → is_main t && keeps_limits (here in_head last) t ≡ false
 no_main last (Name n) e =
     elim (chosen (same_bytes n (codes "real_main")) (Some tt) None None e) [
-      | inl same ↦ absurd (just_is_not tt same.1)
+      | inl same ↦ absurd (some_is_not tt same.1)
       | inr other ↦ ap (λ (b : Bool). b && true) other.0
     ]
 no_main last _ e = refl
@@ -128,15 +117,9 @@ unit_leads source = by_result (unit_at source) (unit_ends source)
 abbrev NoNext : Context → List ℕ → Type 0
 NoNext c bytes = (t : Token) (mid : List ℕ) → IsFirst bytes t mid → in_place c t ≡ false
 
-abbrev found : Token × List ℕ → Option (Token × List ℕ)
-found x = Some x
-
-found_is : (x y : Token × List ℕ) → found x ≡ found y → x ≡ y
-found_is x y e = cc
-
 same_first : (bytes : List ℕ) (t u : Token) (m n : List ℕ) → IsFirst bytes t m → IsFirst bytes u n → (t ≡ u) × (m ≡ n)
 same_first bytes t u m n f g =
-    let e = found_is (t, m) (u, n) (sym (first_is_read bytes t m f) ∙ first_is_read bytes u n g) in
+    let e = some_is (t, m) (u, n) (sym (first_is_read bytes t m f) ∙ first_is_read bytes u n g) in
     (ap (λ (x : Token × List ℕ). x.0) e, ap (λ (x : Token × List ℕ). x.1) e)
 
 never : (b : Bool) → b ≡ true → b ≡ false → ⊥
@@ -199,3 +182,7 @@ refused_there source left e =
       stops = r.stops;
       place_is = omega (arith, r.left_is, unit_left source left e);
     }
+
+-- the place lies in the source, or at its end
+pub place_within : {source : List ℕ} {place : ℕ} → IsRefusedAt source place → place ≤ length source
+place_within r = omega (arith, r.place_is)

@@ -16,22 +16,8 @@ use Rattle.clinda.specs.declared.small.item.Start.{Start}
 use Rattle.clinda.specs.declared.small.item.Start.TheVariants as starts
 use Rattle.clinda.proofs.Lexer.{chosen}
 use Rattle.clinda.proofs.Loops.{declared_last, operations_last, prints_last}
+use Rattle.clinda.proofs.Takes.{some_is, none_is_not, some_is_not}
 use Rattle.clinda.proofs.PlaceSteps.{Refused, Leads, bind_leads, Told, here, Is, Accepts, leads_by, refused_by, Further, list_leads}
-
-abbrev nothing : {A : Type 0} → Option A
-nothing = None
-
-abbrev just : {A : Type 0} → A → Option A
-just x = Some x
-
-nothing_is_not : {A : Type 0} (y : A) → nothing ≡ just y → ⊥
-nothing_is_not y e = cc
-
-just_is_not : {A : Type 0} (x : A) → just x ≡ nothing → ⊥
-just_is_not x e = cc
-
-just_is : {A : Type 0} (x y : A) → just x ≡ just y → x ≡ y
-just_is x y e = cc
 
 -- ---- marks
 
@@ -132,7 +118,7 @@ declaring names operations prints = record { statement = Declares; names = names
 yes_new_name : (names : List (List ℕ)) (operations prints : ℕ) → ltb (length names) 1024 ≡ true → (last : Option Token) (t : Token) (x : List ℕ) → new_name names t ≡ Some x → is_a_name t && keeps_limits (here (declaring names operations prints) last) t ≡ true
 yes_new_name names operations prints room last (Name n) x e =
     elim (chosen (is_known names n) None (Some n) (Some x) e) [
-      | inl old ↦ absurd (nothing_is_not x old.1)
+      | inl old ↦ absurd (none_is_not x old.1)
       | inr fresh ↦ and_from (not (is_known names n)) (ltb (length names) 1024) (ap not fresh.0) room
     ]
 yes_new_name names operations prints room last _ x e = absurd cc
@@ -141,7 +127,7 @@ no_new_name : (names : List (List ℕ)) (operations prints : ℕ) (last : Option
 no_new_name names operations prints last (Name n) e =
     elim (chosen (is_known names n) None (Some n) None e) [
       | inl old ↦ ap (λ (b : Bool). not b && ltb (length names) 1024) old.0
-      | inr fresh ↦ absurd (just_is_not n fresh.1)
+      | inr fresh ↦ absurd (some_is_not n fresh.1)
     ]
 no_new_name names operations prints last _ e = refl
 
@@ -149,9 +135,9 @@ no_new_name names operations prints last _ e = refl
 new_name_to : (names : List (List ℕ)) (operations prints : ℕ) (last : Option Token) (t : Token) (x : List ℕ) → new_name names t ≡ Some x → Is ends_name (declaring (names ++ x ∷ []) operations prints) (behind (here (declaring names operations prints) last) t)
 new_name_to names operations prints last (Name n) x e =
     elim (chosen (is_known names n) None (Some n) (Some x) e) [
-      | inl old ↦ absurd (nothing_is_not x old.1)
+      | inl old ↦ absurd (none_is_not x old.1)
       | inr fresh ↦
-          subst (λ (m : List ℕ). Is ends_name (declaring (names ++ m ∷ []) operations prints) (behind (here (declaring names operations prints) last) (Name n))) (just_is n x fresh.1)
+          subst (λ (m : List ℕ). Is ends_name (declaring (names ++ m ∷ []) operations prints) (behind (here (declaring names operations prints) last) (Name n))) (some_is n x fresh.1)
           (record { last = Some (Name n); same = refl; follows = λ t. refl; unclosed = refl })
     ]
 new_name_to names operations prints last _ x e = absurd cc
@@ -285,15 +271,15 @@ behind_semicolon makes.Template t = refl
 
 piece_to : (kind : Makes) (names : List (List ℕ)) (pieces operations prints : ℕ) (last : Option Token) (t : Token) (x : Option PlainPiece) → piece_start kind t ≡ Some x → PieceTo kind names (pieces + 1) operations prints x (behind (here (operating kind names pieces operations prints) last) t)
 piece_to kind names pieces operations prints last (Str bytes) x e =
-    subst (λ (o : Option PlainPiece). PieceTo kind names (pieces + 1) operations prints o (behind (here (operating kind names pieces operations prints) last) (Str bytes))) (just_is (Some (Text bytes)) x e)
+    subst (λ (o : Option PlainPiece). PieceTo kind names (pieces + 1) operations prints o (behind (here (operating kind names pieces operations prints) last) (Str bytes))) (some_is (Some (Text bytes)) x e)
     (record { last = Some (Str bytes); same = refl; follows = ends_of_string kind bytes; unclosed = refl })
 piece_to kind names pieces operations prints last (Number value) x e =
-    subst (λ (o : Option PlainPiece). PieceTo kind names (pieces + 1) operations prints o (behind (here (operating kind names pieces operations prints) last) (Number value))) (just_is (Some (Literal value)) x e)
+    subst (λ (o : Option PlainPiece). PieceTo kind names (pieces + 1) operations prints o (behind (here (operating kind names pieces operations prints) last) (Number value))) (some_is (Some (Literal value)) x e)
     (record { last = Some (Number value); same = refl; follows = ends_of_number kind value; unclosed = refl })
 piece_to makes.Template names pieces operations prints last Question x e =
-    subst (λ (o : Option PlainPiece). PieceTo makes.Template names (pieces + 1) operations prints o (behind (here (operating makes.Template names pieces operations prints) last) Question)) (just_is None x e)
+    subst (λ (o : Option PlainPiece). PieceTo makes.Template names (pieces + 1) operations prints o (behind (here (operating makes.Template names pieces operations prints) last) Question)) (some_is None x e)
     (record { last = Some Question; same = refl; follows = λ t. refl; unclosed = refl })
-piece_to makes.Tuple names pieces operations prints last Question x e = absurd (nothing_is_not x e)
+piece_to makes.Tuple names pieces operations prints last Question x e = absurd (none_is_not x e)
 piece_to kind names pieces operations prints last _ x e = absurd cc
 
 -- a known name where one is used
@@ -301,14 +287,14 @@ yes_known : (told : Told) → ((name : List ℕ) (last : Option Token) → keeps
 yes_known told used last (Name n) x e =
     elim (chosen (is_known told.names n) (Some n) None (Some x) e) [
       | inl old ↦ used n last ∙ old.0
-      | inr fresh ↦ absurd (nothing_is_not x fresh.1)
+      | inr fresh ↦ absurd (none_is_not x fresh.1)
     ]
 yes_known told used last _ x e = absurd cc
 
 no_known : (told : Told) → ((name : List ℕ) (last : Option Token) → keeps_limits (here told last) (Name name) ≡ is_known told.names name) → (last : Option Token) (t : Token) → known_name told.names t ≡ None → is_a_name t && keeps_limits (here told last) t ≡ false
 no_known told used last (Name n) e =
     elim (chosen (is_known told.names n) (Some n) None None e) [
-      | inl old ↦ absurd (just_is_not n old.1)
+      | inl old ↦ absurd (some_is_not n old.1)
       | inr fresh ↦ used n last ∙ fresh.0
     ]
 no_known told used last _ e = refl
@@ -425,7 +411,7 @@ yes_format : (names : List (List ℕ)) (operations prints : ℕ) (last : Option 
 yes_format names operations prints last (Str bytes) x e =
     elim (chosen (same_bytes bytes (codes "%d")) (Some formats.Number) None (Some x) e) [
       | inl same ↦ ap (λ (b : Bool). b && true) same.0
-      | inr other ↦ absurd (nothing_is_not x other.1)
+      | inr other ↦ absurd (none_is_not x other.1)
     ]
 yes_format names operations prints last LineFormat x e = refl
 yes_format names operations prints last _ x e = absurd cc
@@ -433,7 +419,7 @@ yes_format names operations prints last _ x e = absurd cc
 no_format : (names : List (List ℕ)) (operations prints : ℕ) (last : Option Token) (t : Token) → format_of t ≡ None → is_format t && keeps_limits (here (printing names 0 operations prints) last) t ≡ false
 no_format names operations prints last (Str bytes) e =
     elim (chosen (same_bytes bytes (codes "%d")) (Some formats.Number) None None e) [
-      | inl same ↦ absurd (just_is_not formats.Number same.1)
+      | inl same ↦ absurd (some_is_not formats.Number same.1)
       | inr other ↦ ap (λ (b : Bool). b && true) other.0
     ]
 no_format names operations prints last LineFormat e = absurd cc

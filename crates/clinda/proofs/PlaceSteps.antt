@@ -7,6 +7,7 @@ use Rattle.clinda.specs.ReadingTokens.{skip, token_at}
 use Rattle.clinda.specs.Reading.{◌>>=◌, taken, choose, chosen_at, list_at}
 use Rattle.clinda.proofs.Lexer.{after_begins, after_whole, first_is_read, read_is_first}
 use Rattle.clinda.proofs.Loops.{One}
+use Rattle.clinda.proofs.Takes.{some_is, none_is_not}
 
 pub reaches_join : (xs ys : List Token) (c d e : Context) (a b z : List ℕ) → Reaches c a xs d b → Reaches d b ys e z → Reaches c a (xs ++ ys) e z
 reaches_join [] ys c d e a b z p q = subst (λ (s : List ℕ). Reaches c s ys e z) (sym p.1) (subst (λ (k : Context). Reaches k b ys e z) (sym p.0) q)
@@ -60,24 +61,15 @@ pub record Agrees (A : Type 0) (accept : Token → Option A) (c : Context) : Typ
   pub no : (t : Token) → accept t ≡ None → in_place c t ≡ false
   pub unclosed : is_closed c ≡ false
 
-abbrev one_token : Token × List ℕ → Option (Token × List ℕ)
-one_token found = Some found
-
-first_of : (x y : Token × List ℕ) → one_token x ≡ one_token y → x.0 ≡ y.0
-first_of x y e = cc
-
-no_token : (y : Token × List ℕ) → None ≡ one_token y → ⊥
-no_token y e = absurd cc
-
 pub chosen_leads : {A : Type 0} (accept : Token → Option A) (c : Context) (bytes : List ℕ) (to : A → Context → Type 0) → Agrees A accept c → ((t : Token) (x : A) → accept t ≡ Some x → to x (behind c t)) → Leads c bytes to (chosen_at accept bytes)
 chosen_leads {A} accept c bytes to agrees good = by_token (token_at (skip bytes)) refl
   where
     by_accept : (found : Token × List ℕ) (o : Option A) → token_at (skip bytes) ≡ Some found → accept found.0 ≡ o → Leads c bytes to (taken (length (skip bytes)) o found.1)
-    by_accept found None e n = refused_here c bytes (λ t mid f. subst (λ (u : Token). in_place c u ≡ false) (first_of found (t, mid) (sym e ∙ f)) (agrees.no found.0 n)) agrees.unclosed
+    by_accept found None e n = refused_here c bytes (λ t mid f. subst (λ (u : Token). in_place c u ≡ false) (ap (λ (x : Token × List ℕ). x.0) (some_is found (t, mid) (sym e ∙ f))) (agrees.no found.0 n)) agrees.unclosed
     by_accept found (Some x) e s = (found.0 ∷ [], behind c found.0, (found.1, read_is_first bytes found.0 found.1 e, agrees.yes found.0 x s, (refl, refl)), good found.0 x s)
 
     by_token : (o : Option (Token × List ℕ)) → token_at (skip bytes) ≡ o → Leads c bytes to (choose accept (length (skip bytes)) o)
-    by_token None e = refused_here c bytes (λ t mid f. absurd (no_token (t, mid) (sym e ∙ f))) agrees.unclosed
+    by_token None e = refused_here c bytes (λ t mid f. absurd (none_is_not (t, mid) (sym e ∙ f))) agrees.unclosed
     by_token (Some found) e = by_accept found (accept found.0) e refl
 
 -- what the tokens before a place tell, but for the last of them

@@ -18,23 +18,9 @@ use Rattle.clinda.proofs.Lexer.{chosen, after_whole, first_is_read, front_all}
 use Rattle.clinda.proofs.Loops.{declared_last, operations_last, prints_last}
 use Rattle.clinda.proofs.ItemReads.{unit_again}
 use Rattle.clinda.proofs.Within.{unit_left}
+use Rattle.clinda.proofs.Takes.{some_is, none_is_not, some_is_not}
 use Rattle.clinda.proofs.PlaceSteps.{reaches_join, Refused, Leads, bind_leads, leads_later, refused_later, refused_here, Told, here, Is, Accepts, Agrees, leads_by}
 use Rattle.clinda.proofs.PlaceReads.{accepts_open_bracket, accepts_close_bracket, accepts_open_brace, declaring, operating, printing, statement_of, BehindNames, names_leads, BehindOperation, operation_leads, BehindPrint, BehindPrinted, print_leads}
-
-abbrev pub nothing : {A : Type 0} → Option A
-nothing = None
-
-abbrev pub just : {A : Type 0} → A → Option A
-just x = Some x
-
-nothing_is_not : {A : Type 0} (y : A) → nothing ≡ just y → ⊥
-nothing_is_not y e = cc
-
-just_is_not : {A : Type 0} (x : A) → just x ≡ nothing → ⊥
-just_is_not x e = cc
-
-just_is : {A : Type 0} (x y : A) → just x ≡ just y → x ≡ y
-just_is x y e = cc
 
 -- ---- items
 
@@ -58,15 +44,15 @@ StartTo names operations prints starts.Print c = (prints < 1024) × Is is_open_b
 
 yes_within : (room : Bool) (s x : Start) → cond room (Some s) None ≡ Some x → room ≡ true
 yes_within true s x e = refl
-yes_within false s x e = absurd (nothing_is_not x e)
+yes_within false s x e = absurd (none_is_not x e)
 
 no_within : (room : Bool) (s : Start) → cond room (Some s) None ≡ None → room ≡ false
-no_within true s e = absurd (just_is_not s e)
+no_within true s e = absurd (some_is_not s e)
 no_within false s e = refl
 
 is_within : (room : Bool) (s x : Start) → cond room (Some s) None ≡ Some x → s ≡ x
-is_within true s x e = just_is s x e
-is_within false s x e = absurd (nothing_is_not x e)
+is_within true s x e = some_is s x e
+is_within false s x e = absurd (none_is_not x e)
 
 yes_item : (statement : Statement) (names : List (List ℕ)) (pieces operations prints : ℕ) (last : Option Token) (t : Token) (x : Start) → item_start operations prints t ≡ Some x → begins_item t && keeps_limits (here (telling statement names pieces operations prints) last) t ≡ true
 yes_item statement names pieces operations prints last CloseBrace x e = refl
@@ -88,9 +74,9 @@ no_item statement names pieces operations prints last _ e = refl
 
 start_to : (statement : Statement) (names : List (List ℕ)) (pieces operations prints : ℕ) (last : Option Token) (t : Token) (x : Start) → item_start operations prints t ≡ Some x → StartTo names operations prints x (behind (here (telling statement names pieces operations prints) last) t)
 start_to statement names pieces operations prints last CloseBrace x e =
-    subst (λ (s : Start). StartTo names operations prints s (behind (here (telling statement names pieces operations prints) last) CloseBrace)) (just_is starts.Close x e) refl
+    subst (λ (s : Start). StartTo names operations prints s (behind (here (telling statement names pieces operations prints) last) CloseBrace)) (some_is starts.Close x e) refl
 start_to statement names pieces operations prints last IntWord x e =
-    subst (λ (s : Start). StartTo names operations prints s (behind (here (telling statement names pieces operations prints) last) IntWord)) (just_is starts.Declare x e)
+    subst (λ (s : Start). StartTo names operations prints s (behind (here (telling statement names pieces operations prints) last) IntWord)) (some_is starts.Declare x e)
     (record { last = Some IntWord; same = refl; follows = λ t. refl; unclosed = refl })
 start_to statement names pieces operations prints last OutWord x e =
     subst (λ (s : Start). StartTo names operations prints s (behind (here (telling statement names pieces operations prints) last) OutWord)) (is_within (ltb operations 1024) starts.Out x e)

@@ -48,6 +48,11 @@ pub said_front : (text : List ℕ) {found status : ℕ} {before after : Option (
 said_front text {found} {status} {before} {after} (Whole s a k) = (length text, omega arith, subst (λ t. Appends before t after) (sym (take_all (length text) text (omega arith))) a)
 said_front text (Part n h s a r) = (n, omega arith, a)
 
+-- at another status than 5 the whole text was written
+pub said_all : {text : List ℕ} {found status : ℕ} {before after : Option (List ℕ)} {f g : ℕ} → Said text found status before after f g → status ≢ 5 → Appends before text after
+said_all (Whole s a k) other = a
+said_all (Part n h s a r) other = absurd (other s)
+
 -- where no write failed the whole text was written
 pub said_whole : {text : List ℕ} {found status : ℕ} {before after : Option (List ℕ)} {f g : ℕ} → Said text found status before after f g → Quiet f g → (status ≡ found) × Appends before text after
 said_whole (Whole s a k) quiet = (s, a)

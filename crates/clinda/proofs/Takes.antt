@@ -44,6 +44,15 @@ some x = Some x
 pub some_is : {A : Type 0} (x y : A) → some x ≡ some y → x ≡ y
 some_is x y e = cc
 
+abbrev pub nothing : {A : Type 0} → Option A
+nothing = None
+
+pub none_is_not : {A : Type 0} (y : A) → nothing ≡ some y → ⊥
+none_is_not y e = cc
+
+pub some_is_not : {A : Type 0} (x : A) → some x ≡ nothing → ⊥
+some_is_not x e = cc
+
 taken_ok : {A : Type 0} (left : ℕ) (o : Option A) (rest : List ℕ) (y : A × List ℕ) → taken left o rest ≡ Ok y → (o ≡ Some y.0) × (rest ≡ y.1)
 taken_ok left None rest y e = absurd cc
 taken_ok left (Some x) rest y e = let p = ok_is (x, rest) y e in (ap (λ (z : _ × List ℕ). some z.0) p, ap (λ (z : _ × List ℕ). z.1) p)

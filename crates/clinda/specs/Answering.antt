@@ -7,6 +7,7 @@ use Rattle.cl_outside.specs.Faults.{Rose}
 use Rattle.cl_outside.specs.Streams.{TakesAll, Loses}
 use Rattle.cl_model.specs.Commands.{Command, Spells, SpellsNone}
 use Rattle.cl_model.specs.Good.{GoodRun, Turns}
+use Rattle.cl_model.specs.Places.{IsRefusedAt}
 use Rattle.cl_model.specs.Refusals.{words_refused, too_large, not_built}
 use Rattle.cl_model.specs.Small.{PlainItem, Accepted}
 use Rattle.cl_model.specs.SmallMeaning.{texts_of, small_demands, small_sets}
@@ -49,7 +50,7 @@ pub data Refusal (source : List ℕ) (place status : ℕ) (before after : Option
 -- what becomes of a source: it has a unit; or it has none; or memory ran out before that was known
 pub data Judged (source : List ℕ) (status : ℕ) (report : Option PlainRun) (before after : Option (List ℕ)) (faults_before faults_after : ℕ) : Type 0 where
   Accepts : (items : List PlainItem) → HasUnit source items → Ran items status report before after faults_before faults_after → Judged source status report before after faults_before faults_after
-  Refuses : HasNoUnit source → report ≡ None → (place : ℕ) → place ≤ length source → Refusal source place status before after faults_before faults_after → Judged source status report before after faults_before faults_after
+  Refuses : HasNoUnit source → report ≡ None → (place : ℕ) → IsRefusedAt source place → Refusal source place status before after faults_before faults_after → Judged source status report before after faults_before faults_after
   Unjudged : report ≡ None → status ≡ 8 → after ≡ before → faults_after ≡ faults_before → Judged source status report before after faults_before faults_after
 
 -- what a call found of its source and of its sink, before and after it

@@ -7,6 +7,7 @@ use Rattle.cl_outside.specs.Streams.{Appends}
 use Rattle.cl_model.specs.Commands.{Command, Spells, SpellsNone}
 use Rattle.cl_model.specs.Ends.{Stuck}
 use Rattle.cl_model.specs.Good.{GoodRun, Turns, some_failure}
+use Rattle.cl_model.specs.Places.{IsRefusedAt}
 use Rattle.cl_model.specs.Refusals.{words_refused, too_large, not_built}
 use Rattle.cl_model.specs.Small.{PlainItem, Accepted}
 use Rattle.cl_model.specs.SmallMeaning.{small_demands, small_sets}
@@ -46,17 +47,21 @@ abbrev pub TooLargeClause : List (List ℕ) → ℕ → Option PlainRun → Outs
 TooLargeClause words status report before after =
     Reads words status report before after → IfSome before.left (λ source. 1048576 < length source → (report ≡ None) × Says too_large 2 status before after)
 
--- a source without a unit is refused at a place in it or at its end
+-- a source without a unit is refused at its first token that isn't in place, or at its end where it ends
+-- before its last `}`
 pub record RefusesSource (source : List ℕ) (status : ℕ) (report : Option PlainRun) (before after : Outside) : Type 0 where
   pub no_run : report ≡ None
   pub place : ℕ
-  pub within : place ≤ length source
+  pub first : IsRefusedAt source place
   pub said : Says (not_built source place) 2 status before after
 
--- status 2 comes, for a source within the limit, exactly where it has no unit
+-- status 2 comes, for a source within the limit, exactly where it has no unit; and it has none exactly where
+-- there is a place at which it is refused, which is the only one
 pub record JudgesSource (source : List ℕ) (status : ℕ) (report : Option PlainRun) (before after : Outside) : Type 0 where
   pub refused : HasNoUnit source → RefusesSource source status report before after
   pub only : status ≡ 2 → HasNoUnit source
+  pub none : (place : ℕ) → IsRefusedAt source place → HasNoUnit source
+  pub once : (place other : ℕ) → IsRefusedAt source place → IsRefusedAt source other → place ≡ other
 
 abbrev pub SourceClause : List (List ℕ) → ℕ → Option PlainRun → Outside → Outside → Type 0
 SourceClause words status report before after =
@@ -121,7 +126,7 @@ pub record WriteFaultClause (status : ℕ) (before after : Outside) : Type 0 whe
 pub data IsText (words : List (List ℕ)) (report : Option PlainRun) (before : Outside) (text : List ℕ) : Type 0 where
   OfWords : SpellsNone words → text ≡ words_refused → IsText words report before text
   OfLarge : IfSome before.left (λ source. 1048576 < length source) → text ≡ too_large → IsText words report before text
-  OfSource : (source : List ℕ) → IsSource before.left source → HasNoUnit source → (place : ℕ) → place ≤ length source → text ≡ not_built source place → IsText words report before text
+  OfSource : (source : List ℕ) → IsSource before.left source → HasNoUnit source → (place : ℕ) → IsRefusedAt source place → text ≡ not_built source place → IsText words report before text
   OfRun : (source : List ℕ) (items : List PlainItem) (run : PlainRun) → IsSource before.left source → Accepted source items → report ≡ Some run → text ≡ text_of items run → IsText words report before text
 
 -- a front of such a text was written
@@ -132,11 +137,17 @@ pub record WritesFront (words : List (List ℕ)) (report : Option PlainRun) (bef
   pub within : count ≤ length text
   pub front : Appends before.written (take count text) after.written
 
--- at status 5, and at status 8 with a report, a front of the text was written; at status 8 without a report
--- nothing was
+-- the whole of such a text was written
+pub record WritesWhole (words : List (List ℕ)) (report : Option PlainRun) (before after : Outside) : Type 0 where
+  pub text : List ℕ
+  pub is_text : IsText words report before text
+  pub whole : Appends before.written text after.written
+
+-- at status 5 a front of the text was written; at status 8 with a report the whole text or nothing, and
+-- without a report nothing
 pub record MemoryClause (words : List (List ℕ)) (status : ℕ) (report : Option PlainRun) (before after : Outside) : Type 0 where
   pub fault : status ≡ 5 → WritesFront words report before after
-  pub memory : status ≡ 8 → IsSome report → WritesFront words report before after
+  pub memory : status ≡ 8 → IsSome report → WritesWhole words report before after ⊎ (after.written ≡ before.written)
   pub nothing : status ≡ 8 → report ≡ None → after.written ≡ before.written
 
 -- a report is there exactly where a process was run

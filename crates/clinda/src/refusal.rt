@@ -14,7 +14,6 @@ pub fn words_refused() -> &'static [u8]
 }
 
 /// The text of a source that has more bytes than the limit.
-#[tactic(auto, using(crate::proofs::PlaceLaws::refused_there))]
 pub fn too_large() -> &'static [u8]
     ensures { result.now ≡ refusals.too_large }
 {

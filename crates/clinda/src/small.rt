@@ -16,7 +16,7 @@ mod word;
 ghost use Rattle.std.specs.Prelude.{◌≡◌, ◌≤◌, List, length, IfOk, IfErr, MatchResult};
 ghost use Rattle.cl_model.specs.Small.{PlainItem, Accepted};
 ghost use Rattle.cl_model.specs.SmallViews.{plain_unit};
-ghost use Rattle.clinda.specs.ReadingEnds.{LiesWithin};
+ghost use Rattle.clinda.specs.ReadingEnds.{RefusesAt};
 
 use crate::small::item::unit;
 use crate::small::stop::Stop;
@@ -37,15 +37,15 @@ pub enum SmallEnd {
 }
 
 /// The unit of a source of the small form.
-#[tactic(auto, using(crate::proofs::UnitReads::only_unit, crate::proofs::Within::unit_left))]
+#[tactic(auto, using(crate::proofs::UnitReads::only_unit, crate::proofs::Within::unit_left, crate::proofs::PlaceLaws::refused_there))]
 pub fn read_small(alloc: Global, source: &[u8]) -> Result<SmallUnit, SmallEnd>
     requires { length source.now ≤ 1048576 }
     // What is read is the source's unit.
     ensures found { IfOk result (λ read. Accepted source.now (plain_unit read)) }
     // A source that has a unit is read as that one, unless memory runs out.
     ensures only { (items : List PlainItem) → Accepted source.now items → MatchResult result (λ read. plain_unit read ≡ items) (λ end. end ≡ SmallEnd.NoMemory) }
-    // The place of a refusal lies in the source or at its end.
-    ensures place { IfErr result (LiesWithin source.now) }
+    // The place of a refusal is that of the first token that isn't in place.
+    ensures place { IfErr result (RefusesAt source.now) }
 {
     match unit(alloc, source) {
         Ok(found) => Ok(found),

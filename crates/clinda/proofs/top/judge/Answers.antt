@@ -3,7 +3,11 @@ use Rattle.std.specs.Prelude.{option_map}
 use Rattle.cl_value.specs.Views.{plain_run}
 use Rattle.cl_model.specs.SmallViews.{plain_unit}
 use Rattle.clinda.specs.Answering.{Accepts, Refuses}
+use Rattle.clinda.proofs.PlaceLaws.{place_within}
 use Rattle.clinda.proofs.top.judge.Goals as goal
+
+pub refuse-requires-clause-within : goal.refuse-requires-clause-within
+refuse-requires-clause-within g c = place_within (rw c.in-Err-NotBuilt.field-0-is at c.in-Err-NotBuilt.ensures.place)
 
 pub returns-in-Ok : goal.returns-in-Ok
 returns-in-Ok g c =
