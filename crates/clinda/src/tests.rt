@@ -127,6 +127,11 @@ fn units_give_their_texts(rt: HostRuntime) -> Result<(), Fail> {
             "process 0 waiting acts 2\n02\nstatus 7 processes 1 acts 2\n",
             7,
         ),
+        (
+            "real_main(){\n  int v;\n  out(\"x\", 7);\n  inp(\"x\", ?v);\n  printf(\"%d\\n\", v);\n  inp(\"x\", ?v);\n  printf(\"%d\\n\", v);\n}\n",
+            "process 0 ended (0) acts 3\n7\n7\nstatus 0 processes 1 acts 3\n",
+            0,
+        ),
         ("real_main(){switch(1){}}", "refused NotBuilt at 1:13\n", 2),
         (
             "real_main(){out(\"x\",y);}",
