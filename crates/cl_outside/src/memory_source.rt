@@ -32,8 +32,9 @@ impl MemSource {
     ghost use Rattle.std.specs.Prelude.{◌≡◌, ◌<◌};
     ghost use Rattle.cl_outside.specs.Memory.{Input};
 
-    /// A source of these bytes, which takes no memory. A call gives at most `piece` of them, and the calls with the listed numbers,
-    /// counted from 1, fail. The last number of 64 bits stands for all calls from that one on.
+    /// A source of these bytes, which takes no memory. A call gives at most `piece` of them, and the calls
+    /// with the listed numbers, counted from 1, fail. The last number of 64 bits stands for all calls from
+    /// that one on.
     pub fn new(bytes: Vec<u8>, piece: usize, failing: Vec<u64>) -> MemSource
         requires { 0 < piece }
         ensures left { result.left ≡ bytes.items }

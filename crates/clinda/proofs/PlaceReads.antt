@@ -164,11 +164,11 @@ name_leads known operations prints before c bytes h i =
     leads_by (new_name names) is_a_name (declaring names operations prints) c bytes (BehindName known operations prints before) i.is
     (record { yes = yes_new_name names operations prints (lt-ltb (length names) 1024 room); no = no_new_name names operations prints })
     (λ last t x e.
-        let joined = append_assoc known before (x ∷ []) in
-        record {
-          is = subst (λ (ns : List (List ℕ)). Is ends_name (declaring ns operations prints) (behind (here (declaring names operations prints) last) t)) joined (new_name_to names operations prints last t x e);
-          few = omega (arith, room, ap length joined, length_push names x);
-        })
+    let joined = append_assoc known before (x ∷ []) in
+    record {
+      is = subst (λ (ns : List (List ℕ)). Is ends_name (declaring ns operations prints) (behind (here (declaring names operations prints) last) t)) joined (new_name_to names operations prints last t x e);
+      few = omega (arith, room, ap length joined, length_push names x);
+    })
 
 names_to : (known : List (List ℕ)) (operations prints : ℕ) (before : List (List ℕ)) (x : List ℕ) → length (known ++ (before ++ x ∷ [])) ≤ 1024 → (last : Option Token) (t : Token) (b : Bool) → names_go_on t ≡ Some b → Further b (InNames known operations prints (before ++ x ∷ []) (behind (here (declaring (known ++ (before ++ x ∷ [])) operations prints) last) t)) (BehindNames known operations prints (before ++ x ∷ []) (behind (here (declaring (known ++ (before ++ x ∷ [])) operations prints) last) t))
 names_to known operations prints before x few last Comma true e = record { is = record { last = Some Comma; same = refl; follows = λ t. refl; unclosed = refl }; few = few }
@@ -192,8 +192,8 @@ names_leads known operations prints c bytes few is =
     (name_leads known operations prints)
     (λ before x d rest m. leads_by names_go_on ends_name (declaring (known ++ (before ++ x ∷ [])) operations prints) d rest _ m.is (accepts_names_go_on _) (names_to known operations prints before x m.few))
     (λ before d rest h i.
-        let room : 1024 ≤ length (known ++ before) = omega (arith, h, few, length-append known before) in
-        refused_by is_a_name (declaring (known ++ before) operations prints) d rest i.is (full_names known operations prints (known ++ before) (le-ltb (length (known ++ before)) 1024 room)))
+    let room : 1024 ≤ length (known ++ before) = omega (arith, h, few, length-append known before) in
+    refused_by is_a_name (declaring (known ++ before) operations prints) d rest i.is (full_names known operations prints (known ++ before) (le-ltb (length (known ++ before)) 1024 room)))
     (1024 - length known) [] c bytes (omega arith)
     (record {
       is = subst (λ (ns : List (List ℕ)). Is is_a_name (declaring ns operations prints) c) (sym (append-nil known)) is;

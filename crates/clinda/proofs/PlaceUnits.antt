@@ -131,11 +131,14 @@ declare_leads before c bytes i d is =
     bind_leads d bytes (BehindNames (declared_in before) (operations_in before) (prints_in before)) (ItemTo before) (names_at (declared_in before) bytes) (λ names. Ok (Some (Declare names.0), names.1))
     (names_leads (declared_in before) (operations_in before) (prints_in before) d bytes i.names is)
     (λ names e h.
-        let own : declared_in (Declare names.0 ∷ []) ≡ names.0 = append-nil names.0 in
-        ([], e, (refl, refl),
-        inside_more before (Declare names.0) e i.count
-        (record { statement = Declares; pieces = 0; is = rw (own, zero_more (operations_in before), zero_more (prints_in before)) h.is })
-        (rw own (omega (arith, h.some))) (rw own h.few) (omega (arith, i.operations)) (omega (arith, i.prints))))
+    let own : declared_in (Declare names.0 ∷ []) ≡ names.0 = append-nil names.0 in (
+      [],
+      e,
+      (refl, refl),
+      inside_more before (Declare names.0) e i.count
+          (record { statement = Declares; pieces = 0; is = rw (own, zero_more (operations_in before), zero_more (prints_in before)) h.is })
+          (rw own (omega (arith, h.some))) (rw own h.few) (omega (arith, i.operations)) (omega (arith, i.prints)),
+    ))
   where
     zero_more : (n : ℕ) → n + 0 ≡ n
     zero_more n = omega arith
