@@ -1,11 +1,11 @@
 -- The clauses of the top call follow from all the ways in which a call can go.
-use Rattle.std.proofs.Common.{◌≡◌, ◌≢◌, ℕ, ◌<◌, ◌≤◌, Bool, true, false, List, length, take, drop, Option, Some, None, refl, sym, ap, subst, ◌∙◌, arith, inl, inr, append-nil}
+use Rattle.std.proofs.Common.{◌≡◌, ◌≢◌, ℕ, ◌<◌, ◌≤◌, Bool, true, false, List, length, drop, Option, Some, None, refl, sym, ap, subst, ◌∙◌, arith, inl, inr}
 use Rattle.std.specs.Prelude.{◌⊎◌, IfSome, IsSome, IsSomeAnd}
 use Rattle.std.proofs.lemmas.List.{drop_all}
 use Rattle.cl_value.specs.Plain.{PlainRun, PlainEnd, Ended, Trapped, NoThread, HistoryFull, NoMemory, Stopped, Waiting}
 use Rattle.cl_value.specs.Tickets.{by_ticket}
 use Rattle.cl_outside.specs.Faults.{Rose, Quiet}
-use Rattle.cl_outside.specs.Streams.{TakesAll, GivesAll, Loses, Drops, Appends}
+use Rattle.cl_outside.specs.Streams.{TakesAll, GivesAll, Loses, Drops}
 use Rattle.cl_model.specs.Commands.{Command, Spells, SpellsNone}
 use Rattle.cl_model.specs.Ends.{Stuck}
 use Rattle.cl_model.specs.Good.{Turns, EndsAgree, AllEnded, SomeWait, status_of, some_failure}

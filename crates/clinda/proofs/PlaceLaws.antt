@@ -1,21 +1,21 @@
 -- A source is refused at one place, and exactly where it has no unit.
-use Rattle.std.proofs.Common.{◌≡◌, ℕ, ◌+◌, ◌-◌, ◌≤◌, Bool, true, false, cond, eqb, ◌&&◌, List, [], ◌∷◌, ◌++◌, length, Option, Some, None, Result, Ok, Err, refl, sym, ap, subst, ◌∙◌, arith, inl, inr}
+use Rattle.std.proofs.Common.{◌≡◌, ℕ, ◌-◌, ◌≤◌, Bool, true, false, cond, eqb, ◌&&◌, List, [], ◌∷◌, ◌++◌, length, Option, Some, None, Result, Ok, Err, refl, sym, ap, subst, ◌∙◌, arith, inl, inr}
 use Rattle.std.specs.Prelude.{codes}
 use Rattle.std.specs.List.{list_all}
 use Rattle.std.proofs.lemmas.Bool.{eqb-true, eqb-false}
 use Rattle.std.proofs.lemmas.List.{nil_from_length, take-append-drop}
 use Rattle.cl_model.specs.Tokens.{Token, Name, OpenBracket, CloseBracket, OpenBrace, CloseBrace, same_bytes, is_blank, begins_with, IsFirst}
 use Rattle.cl_model.specs.Small.{PlainItem, Accepted}
-use Rattle.cl_model.specs.Places.{Statement, Head, Declares, Gives, Asks, Prints, Context, is_open_bracket, is_close_bracket, is_open_brace, is_main, may_follow, keeps_limits, in_place, behind, at_front, is_last_brace, is_closed, Reaches, Stops, IsRefusedAt}
+use Rattle.cl_model.specs.Places.{Statement, Head, Declares, Gives, Asks, Prints, Context, is_open_bracket, is_close_bracket, is_open_brace, is_main, may_follow, keeps_limits, in_place, behind, at_front, is_last_brace, is_closed, Reaches, IsRefusedAt}
 use Rattle.clinda.specs.ReadingTokens.{run, skip, front_run, token_at}
-use Rattle.clinda.specs.Reading.{◌>>=◌, chosen_at, open_bracket, close_bracket, open_brace, main_name, items_at, end_at, unit_at}
+use Rattle.clinda.specs.Reading.{chosen_at, open_bracket, close_bracket, open_brace, main_name, items_at, end_at, unit_at}
 use Rattle.clinda.proofs.Lexer.{chosen, after_begins, after_whole, front_all, first_is_read, read_is_first}
 use Rattle.clinda.proofs.ItemReads.{unit_again}
 use Rattle.clinda.proofs.Within.{unit_left}
 use Rattle.clinda.proofs.Takes.{some_is, none_is_not, some_is_not}
-use Rattle.clinda.proofs.PlaceSteps.{Refused, skip_again, Told, Is, Accepts, here, leads_by}
+use Rattle.clinda.proofs.PlaceSteps.{Refused, skip_again, Told, Is, here, leads_by}
 use Rattle.clinda.proofs.PlaceReads.{accepts_open_bracket, accepts_close_bracket, accepts_open_brace}
-use Rattle.clinda.proofs.PlaceUnits.{AtItem, Inside, Closed, items_leads, Whole, UnitLeads, Ends, bind_ends}
+use Rattle.clinda.proofs.PlaceUnits.{Inside, Closed, items_leads, Whole, UnitLeads, Ends, bind_ends}
 
 -- ---- reading a whole source
 

@@ -1,23 +1,19 @@
 -- What is read of a source is in place up to where it is refused.
-use Rattle.std.proofs.Common.{◌≡◌, ℕ, zero, suc, ◌+◌, ◌-◌, ◌<◌, ◌≤◌, Bool, true, false, cond, not, eqb, ltb, ◌&&◌, ◌||◌, List, [], ◌∷◌, ◌++◌, length, Option, Some, None, Result, Ok, Err, refl, sym, ap, subst, ◌∙◌, arith, inl, inr, append_assoc}
+use Rattle.std.proofs.Common.{◌≡◌, ℕ, ◌+◌, ◌-◌, ◌<◌, ◌≤◌, Bool, true, false, not, ltb, ◌&&◌, ◌||◌, List, [], ◌∷◌, ◌++◌, length, Option, Some, None, Ok, refl, sym, ap, subst, ◌∙◌, arith, inl, inr, append_assoc}
 use Rattle.std.specs.Prelude.{codes}
-use Rattle.std.proofs.lemmas.Bool.{and_parts, and_from, ltb-true, lt-ltb, ltb-false, le-ltb, not-true, cond-true, cond-false, eqb-true, eqb-false}
-use Rattle.std.proofs.lemmas.List.{append-nil, length-append, length_push, nil_from_length}
-use Rattle.cl_model.specs.Tokens.{Token, Name, IntWord, OutWord, InWord, InpWord, PrintfWord, Number, Str, LineFormat, OpenBracket, CloseBracket, OpenBrace, CloseBrace, Comma, Semicolon, Question, same_bytes}
-use Rattle.cl_model.specs.Small.{PlainPiece, Text, Literal, Formal, PlainItem, Declare, DoOut, DoIn, DoInp, Print, is_known, declared_in, operations_in, prints_in}
+use Rattle.std.proofs.lemmas.Bool.{and_from, lt-ltb, le-ltb}
+use Rattle.std.proofs.lemmas.List.{append-nil, length-append, length_push}
+use Rattle.cl_model.specs.Tokens.{Token, Name, Number, Str, LineFormat, OpenBracket, CloseBracket, OpenBrace, Comma, Semicolon, Question, same_bytes}
+use Rattle.cl_model.specs.Small.{PlainPiece, Text, Literal, Formal, PlainItem, Print, is_known}
 use Rattle.cl_model.specs.declared.small.Format.{Format}
 use Rattle.cl_model.specs.declared.small.Format.TheVariants as formats
-use Rattle.cl_model.specs.Places.{Statement, Head, Declares, Gives, Asks, Prints, Context, is_open_bracket, is_close_bracket, is_open_brace, is_comma, is_semicolon, is_a_name, is_main, begins_item, is_value, begins_piece, is_format, may_follow, keeps_limits, in_place, behind, at_front, is_closed, Reaches, Stops}
-use Rattle.clinda.specs.ReadingTokens.{skip, token_at}
-use Rattle.clinda.specs.Reading.{◌>>=◌, chosen_at, open_bracket, close_bracket, open_brace, comma, semicolon, main_name, goes_on, names_go_on, new_name, known_name, piece_start, formal_at, piece_from, piece_at, list_at, name_at, names_at, pieces_at, operation_at, format_of, print_at, item_start, item_from, item_at, after_item, items_at, end_at, unit_at}
+use Rattle.cl_model.specs.Places.{Statement, Declares, Gives, Asks, Prints, Context, is_open_bracket, is_close_bracket, is_open_brace, is_comma, is_semicolon, is_a_name, begins_item, is_value, begins_piece, is_format, may_follow, keeps_limits, behind}
+use Rattle.clinda.specs.Reading.{chosen_at, open_bracket, close_bracket, open_brace, comma, semicolon, goes_on, names_go_on, new_name, known_name, piece_start, formal_at, piece_from, piece_at, name_at, names_at, pieces_at, operation_at, format_of, print_at}
 use Rattle.clinda.specs.declared.small.piece.Makes.{Makes}
 use Rattle.clinda.specs.declared.small.piece.Makes.TheVariants as makes
-use Rattle.clinda.specs.declared.small.item.Start.{Start}
-use Rattle.clinda.specs.declared.small.item.Start.TheVariants as starts
 use Rattle.clinda.proofs.Lexer.{chosen}
-use Rattle.clinda.proofs.Loops.{declared_last, operations_last, prints_last}
 use Rattle.clinda.proofs.Takes.{some_is, none_is_not, some_is_not}
-use Rattle.clinda.proofs.PlaceSteps.{Refused, Leads, bind_leads, Told, here, Is, Accepts, leads_by, refused_by, Further, list_leads}
+use Rattle.clinda.proofs.PlaceSteps.{Leads, bind_leads, Told, here, Is, Accepts, leads_by, refused_by, Further, list_leads}
 
 -- ---- marks
 

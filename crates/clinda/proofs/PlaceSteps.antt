@@ -1,7 +1,7 @@
 -- Reading goes from one place to the next, or is refused where no token is in place.
-use Rattle.std.proofs.Common.{◌≡◌, ℕ, zero, suc, ◌+◌, ◌<◌, ◌≤◌, Bool, true, false, cond, ◌&&◌, List, [], ◌∷◌, ◌++◌, length, Option, Some, None, Result, Ok, Err, refl, sym, ap, subst, ◌∙◌, arith}
+use Rattle.std.proofs.Common.{◌≡◌, ℕ, zero, suc, ◌+◌, ◌<◌, Bool, true, false, cond, ◌&&◌, List, [], ◌∷◌, ◌++◌, length, Option, Some, None, Result, Ok, Err, refl, sym, ap, subst, ◌∙◌, arith}
 use Rattle.std.proofs.lemmas.List.{length_push}
-use Rattle.cl_model.specs.Tokens.{Token, is_blank, begins_with, IsFirst}
+use Rattle.cl_model.specs.Tokens.{Token, is_blank}
 use Rattle.cl_model.specs.Places.{Statement, Context, may_follow, keeps_limits, in_place, behind, is_closed, Reaches, Stops}
 use Rattle.clinda.specs.ReadingTokens.{skip, token_at}
 use Rattle.clinda.specs.Reading.{◌>>=◌, taken, choose, chosen_at, list_at}

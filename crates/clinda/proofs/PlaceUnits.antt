@@ -1,26 +1,21 @@
 -- A source is refused at its first token that isn't in place, and nowhere else.
-use Rattle.std.proofs.Common.{◌≡◌, ℕ, zero, suc, ◌+◌, ◌-◌, ◌<◌, ◌≤◌, Bool, true, false, cond, eqb, ltb, ◌&&◌, List, [], ◌∷◌, ◌++◌, length, Option, Some, None, Result, Ok, Err, refl, sym, ap, subst, ◌∙◌, arith, inl, inr}
-use Rattle.std.specs.Prelude.{codes}
-use Rattle.std.specs.List.{list_all}
-use Rattle.std.proofs.lemmas.Bool.{ltb-true, eqb-true, eqb-false}
-use Rattle.std.proofs.lemmas.List.{append-nil, length-append, length_push, nil_from_length, take-append-drop}
-use Rattle.cl_model.specs.Tokens.{Token, Name, IntWord, OutWord, InWord, InpWord, PrintfWord, OpenBracket, CloseBracket, OpenBrace, CloseBrace, same_bytes, is_blank, begins_with, IsFirst}
-use Rattle.cl_model.specs.Small.{PlainPiece, PlainItem, Declare, DoOut, DoIn, DoInp, Print, declared_in, operations_in, prints_in, Accepted}
-use Rattle.cl_model.specs.Places.{Statement, Head, Declares, Gives, Asks, Prints, Context, is_open_bracket, is_close_bracket, is_open_brace, is_a_name, is_main, begins_item, may_follow, keeps_limits, in_place, behind, at_front, is_closed, Reaches, Stops, IsRefusedAt}
-use Rattle.clinda.specs.ReadingTokens.{run, skip, front_run, token_at}
-use Rattle.clinda.specs.Reading.{◌>>=◌, chosen_at, open_bracket, close_bracket, open_brace, main_name, names_at, operation_at, print_at, item_start, item_from, item_at, after_item, items_at, end_at, unit_at}
+use Rattle.std.proofs.Common.{◌≡◌, ℕ, zero, suc, ◌+◌, ◌<◌, ◌≤◌, Bool, true, false, cond, ltb, ◌&&◌, List, [], ◌∷◌, ◌++◌, length, Option, Some, None, Result, Ok, Err, refl, sym, subst, arith}
+use Rattle.std.proofs.lemmas.Bool.{ltb-true}
+use Rattle.std.proofs.lemmas.List.{append-nil, length-append, length_push}
+use Rattle.cl_model.specs.Tokens.{Token, IntWord, OutWord, InWord, InpWord, PrintfWord, CloseBrace}
+use Rattle.cl_model.specs.Small.{PlainItem, Declare, DoOut, DoIn, DoInp, Print, declared_in, operations_in, prints_in}
+use Rattle.cl_model.specs.Places.{Statement, Declares, Prints, Context, is_open_bracket, is_a_name, begins_item, keeps_limits, behind, at_front, is_closed, Reaches}
+use Rattle.clinda.specs.ReadingTokens.{skip}
+use Rattle.clinda.specs.Reading.{◌>>=◌, chosen_at, names_at, operation_at, print_at, item_start, item_from, item_at, after_item, items_at}
 use Rattle.cl_model.specs.declared.small.Format.{Format}
 use Rattle.clinda.specs.declared.small.piece.Makes.{Makes}
 use Rattle.clinda.specs.declared.small.piece.Makes.TheVariants as makes
 use Rattle.clinda.specs.declared.small.item.Start.{Start}
 use Rattle.clinda.specs.declared.small.item.Start.TheVariants as starts
-use Rattle.clinda.proofs.Lexer.{chosen, after_whole, first_is_read, front_all}
 use Rattle.clinda.proofs.Loops.{declared_last, operations_last, prints_last}
-use Rattle.clinda.proofs.ItemReads.{unit_again}
-use Rattle.clinda.proofs.Within.{unit_left}
 use Rattle.clinda.proofs.Takes.{some_is, none_is_not, some_is_not}
-use Rattle.clinda.proofs.PlaceSteps.{reaches_join, Refused, Leads, bind_leads, leads_later, refused_later, refused_here, Told, here, Is, Accepts, Agrees, leads_by}
-use Rattle.clinda.proofs.PlaceReads.{accepts_open_bracket, accepts_close_bracket, accepts_open_brace, declaring, operating, printing, statement_of, BehindNames, names_leads, BehindOperation, operation_leads, BehindPrint, BehindPrinted, print_leads}
+use Rattle.clinda.proofs.PlaceSteps.{reaches_join, Refused, Leads, bind_leads, refused_later, Told, here, Is, leads_by}
+use Rattle.clinda.proofs.PlaceReads.{declaring, operating, printing, statement_of, BehindNames, names_leads, BehindOperation, operation_leads, BehindPrint, BehindPrinted, print_leads}
 
 -- ---- items
 
