@@ -74,78 +74,117 @@ fn check(rt: &impl Abort, alloc: Global, call: &Call, text: &str, status: u8) ->
 // A body that always answers want of memory is refused here, since no clause can do so.
 #[test]
 fn always_out_of_memory(rt: HostRuntime) -> Result<(), Fail> {
-    let source = b"real_main(){int v;out(\"x\",1);in(\"x\",?v);}";
-    let text = "process 0 ended (0) acts 2\nstatus 0 processes 1 acts 2\n";
-    check(&rt, rt.alloc(), &seq(source), text, 0)
+    let (source, text, status) = ROWS[0];
+    check(&rt, rt.alloc(), &seq(source.as_bytes()), text, status)
 }
+
+// Sources, each with its text and its status.
+const ROWS: [(&str, &str, u8); 16] = [
+    (
+        "real_main(){int v;out(\"x\",1);in(\"x\",?v);}",
+        "process 0 ended (0) acts 2\nstatus 0 processes 1 acts 2\n",
+        0,
+    ),
+    (
+        "real_main(){out(\"x\");in(\"x\");}",
+        "process 0 ended (0) acts 2\nstatus 0 processes 1 acts 2\n",
+        0,
+    ),
+    (
+        "real_main(){in(\"x\");}",
+        "process 0 waiting acts 0\nstatus 7 processes 1 acts 0\n",
+        7,
+    ),
+    (
+        "real_main(){out(\"x\",1);out(\"x\",2);in(\"x\",2);}",
+        "process 0 ended (0) acts 3\nstatus 0 processes 1 acts 3\n",
+        0,
+    ),
+    (
+        "real_main(){}",
+        "process 0 ended (0) acts 0\nstatus 0 processes 1 acts 0\n",
+        0,
+    ),
+    (
+        " real_main ( )\n{ int a , b ; out ( \"x\" , 0 ) ;\tin(\"x\",?a);in(\"x\",?b); }\r\n",
+        "process 0 waiting acts 2\nstatus 7 processes 1 acts 2\n",
+        7,
+    ),
+    (
+        "real_main(){int v;out(\"x\",7);inp(\"x\",?v);printf(\"%d\\n\",v);}",
+        "process 0 ended (0) acts 2\n7\nstatus 0 processes 1 acts 2\n",
+        0,
+    ),
+    (
+        "real_main(){int v;inp(\"x\",?v);printf(\"%d\\n\",v);}",
+        "process 0 ended (0) acts 1\n0\nstatus 0 processes 1 acts 1\n",
+        0,
+    ),
+    (
+        "real_main(){int a;out(\"q\",1);out(\"q\",2);inp(\"q\",?a);printf(\"%d\",a);printf(\"%d\",a);}",
+        "process 0 ended (0) acts 3\n11\nstatus 0 processes 1 acts 3\n",
+        0,
+    ),
+    (
+        "real_main(){int v;out(\"x\",2147483647);in(\"x\",?v);printf(\"%d\\n\",v);}",
+        "process 0 ended (0) acts 2\n2147483647\nstatus 0 processes 1 acts 2\n",
+        0,
+    ),
+    (
+        "real_main(){int a,b;printf(\"%d\",b);out(1,2);in(?a,?a);printf(\"%d\\n\",a);in(3);}",
+        "process 0 waiting acts 2\n02\nstatus 7 processes 1 acts 2\n",
+        7,
+    ),
+    (
+        "real_main(){\n  int v;\n  out(\"x\", 7);\n  inp(\"x\", ?v);\n  printf(\"%d\\n\", v);\n  inp(\"x\", ?v);\n  printf(\"%d\\n\", v);\n}\n",
+        "process 0 ended (0) acts 3\n7\n7\nstatus 0 processes 1 acts 3\n",
+        0,
+    ),
+    ("real_main(){switch(1){}}", "refused NotBuilt at 1:13\n", 2),
+    (
+        "real_main(){out(\"x\",y);}",
+        "refused NotBuilt at 1:21\n",
+        2,
+    ),
+    (
+        "real_main(){\nint v;in(\"x\",?w);}",
+        "refused NotBuilt at 2:15\n",
+        2,
+    ),
+    ("", "refused NotBuilt at 1:1\n", 2),
+];
 
 #[test]
 fn units_give_their_texts(rt: HostRuntime) -> Result<(), Fail> {
-    for (source, text, status) in [
-        (
-            "real_main(){in(\"x\");}",
-            "process 0 waiting acts 0\nstatus 7 processes 1 acts 0\n",
-            7,
-        ),
-        (
-            "real_main(){out(\"x\",1);out(\"x\",2);in(\"x\",2);}",
-            "process 0 ended (0) acts 3\nstatus 0 processes 1 acts 3\n",
-            0,
-        ),
-        (
-            "real_main(){}",
-            "process 0 ended (0) acts 0\nstatus 0 processes 1 acts 0\n",
-            0,
-        ),
-        (
-            " real_main ( )\n{ int a , b ; out ( \"x\" , 0 ) ;\tin(\"x\",?a);in(\"x\",?b); }\r\n",
-            "process 0 waiting acts 2\nstatus 7 processes 1 acts 2\n",
-            7,
-        ),
-        (
-            "real_main(){int v;out(\"x\",7);inp(\"x\",?v);printf(\"%d\\n\",v);}",
-            "process 0 ended (0) acts 2\n7\nstatus 0 processes 1 acts 2\n",
-            0,
-        ),
-        (
-            "real_main(){int v;inp(\"x\",?v);printf(\"%d\\n\",v);}",
-            "process 0 ended (0) acts 1\n0\nstatus 0 processes 1 acts 1\n",
-            0,
-        ),
-        (
-            "real_main(){int a;out(\"q\",1);out(\"q\",2);inp(\"q\",?a);printf(\"%d\",a);printf(\"%d\",a);}",
-            "process 0 ended (0) acts 3\n11\nstatus 0 processes 1 acts 3\n",
-            0,
-        ),
-        (
-            "real_main(){int v;out(\"x\",2147483647);in(\"x\",?v);printf(\"%d\\n\",v);}",
-            "process 0 ended (0) acts 2\n2147483647\nstatus 0 processes 1 acts 2\n",
-            0,
-        ),
-        (
-            "real_main(){int a,b;printf(\"%d\",b);out(1,2);in(?a,?a);printf(\"%d\\n\",a);in(3);}",
-            "process 0 waiting acts 2\n02\nstatus 7 processes 1 acts 2\n",
-            7,
-        ),
-        (
-            "real_main(){\n  int v;\n  out(\"x\", 7);\n  inp(\"x\", ?v);\n  printf(\"%d\\n\", v);\n  inp(\"x\", ?v);\n  printf(\"%d\\n\", v);\n}\n",
-            "process 0 ended (0) acts 3\n7\n7\nstatus 0 processes 1 acts 3\n",
-            0,
-        ),
-        ("real_main(){switch(1){}}", "refused NotBuilt at 1:13\n", 2),
-        (
-            "real_main(){out(\"x\",y);}",
-            "refused NotBuilt at 1:21\n",
-            2,
-        ),
-        (
-            "real_main(){\nint v;in(\"x\",?w);}",
-            "refused NotBuilt at 2:15\n",
-            2,
-        ),
-        ("", "refused NotBuilt at 1:1\n", 2),
-    ] {
+    for (source, text, status) in ROWS {
         check(&rt, rt.alloc(), &seq(source.as_bytes()), text, status)?;
+    }
+    Ok(())
+}
+
+#[test]
+fn no_piece_changes_a_text(rt: HostRuntime) -> Result<(), Fail> {
+    for (source, text, status) in ROWS {
+        for (read_piece, write_piece) in [(1, 5), (7, 1)] {
+            let call = Call {
+                read_piece,
+                write_piece,
+                ..seq(source.as_bytes())
+            };
+            check(&rt, rt.alloc(), &call, text, status)?;
+        }
+    }
+    Ok(())
+}
+
+// Whichever allocation of the call fails: the text is whole, or the status is 8.
+#[test]
+fn want_of_memory_is_told(rt: HostRuntime) -> Result<(), Fail> {
+    let (source, text, status) = ROWS[0];
+    let told = tell(&rt, rt.alloc(), &seq(source.as_bytes()))?;
+    if told.status != 8 {
+        assert_eq!(rt; told.status, status);
+        assert_eq!(rt; told.text.as_slice(), text.as_bytes());
     }
     Ok(())
 }

@@ -57,7 +57,17 @@ fn refused(rt: HostRuntime) {
         Some(22)
     );
     assert_eq!(rt; place_of(rt.alloc(), b"real_main(){} 5"), Some(14));
-    assert_eq!(rt; place_of(rt.alloc(), b"real_main(){out(\"x);}"), Some(16));
+    for text in [
+        b"real_main(){out(\"x);}".as_slice(),
+        b"real_main(){out(\"a\tb\");}",
+        b"real_main(){out(\"a\\b\");}",
+    ] {
+        assert_eq!(rt; place_of(rt.alloc(), text), Some(16));
+    }
+    assert_eq!(rt;
+        place_of(rt.alloc(), b"real_main(){in(?v);int v;}"),
+        Some(16)
+    );
 }
 
 #[test]
