@@ -1,9 +1,9 @@
 -- A history of process 0 alone: what it tells of the processes.
-use Rattle.std.proofs.Common.{◌≡◌, ◌≢◌, ℕ, ◌<◌, Bool, true, false, List, [], ◌∷◌, ◌++◌, Some, None, refl, sym, ap, ◌∙◌, append-nil, append_assoc}
+use Rattle.std.proofs.Common.{◌≡◌, ◌≢◌, ℕ, Bool, true, false, List, [], ◌∷◌, ◌++◌, Some, None, refl, sym, ap, ◌∙◌, append-nil, append_assoc}
 use Rattle.std.specs.Prelude.{option_to_list, ◌==◌}
 use Rattle.std.specs.List.{AllByRecursion}
 use Rattle.std.proofs.lemmas.Bool.Decides.{Decides-eqb}
-use Rattle.cl_value.specs.Acts.{acts_of, names_made, is_eval, reply_of}
+use Rattle.cl_value.specs.Acts.{acts_of, names_made, reply_of}
 use Rattle.cl_value.specs.Plain.{PlainAct, PlainWhat, Main, PlainReply}
 use Rattle.cl_model.specs.Alone.{replies_in, IsOwn}
 use Rattle.cl_model.specs.Machine.{State, Process, first, is_land, told, changed, after_from, after}

@@ -2,3 +2,4 @@ pub mod Matches
 pub mod Bags
 pub mod Histories
 pub mod Alone
+pub mod Rows

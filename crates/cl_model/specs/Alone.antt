@@ -1,5 +1,5 @@
 -- A history of process 0 alone. (This project.)
-use Rattle.std.specs.Prelude.{ℕ, ◌<◌, ◌≡◌, Bool, false, List, [], ◌∷◌, ◌++◌, option_to_list}
+use Rattle.std.specs.Prelude.{ℕ, ◌<◌, ◌≡◌, false, List, [], ◌∷◌, ◌++◌, option_to_list}
 use Rattle.cl_value.specs.Acts.{reply_of, is_eval}
 use Rattle.cl_value.specs.Plain.{PlainAct, PlainReply}
 use Rattle.cl_model.specs.Machine.{is_land}

@@ -1,4 +1,4 @@
-use crate::bytes::{is_listed, push_all};
+use crate::bytes::is_listed;
 use crate::{Failed, Sink};
 use cl_value::{Items, NoMemory};
 use std::alloc::Global;
@@ -118,7 +118,7 @@ impl Sink for MemSink {
             return Err(Failed);
         }
         let count = self.piece.min(bytes.len()).min(self.room);
-        push_all(&mut self.bytes, &bytes[..count]);
+        self.bytes.push_all(&bytes[..count]);
         self.room -= count;
         Ok(count)
     }

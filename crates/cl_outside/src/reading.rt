@@ -1,4 +1,3 @@
-use crate::bytes::push_all;
 use crate::{Failed, Source};
 use cl_value::Items;
 use std::alloc::Global;
@@ -49,7 +48,7 @@ pub fn read_all<I: Source>(alloc: Global, src: &mut I, max: usize) -> Result<Ite
         }
         match src.read(&mut buffer[..want]) {
             Ok(0) => return Ok(all),
-            Ok(count) => push_all(&mut all, &buffer[..count]),
+            Ok(count) => all.push_all(&buffer[..count]),
             Err(Failed) => return Err(ReadEnd::Fault),
         }
     }

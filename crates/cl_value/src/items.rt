@@ -112,8 +112,19 @@ impl<T: Drop> Items<T> {
 }
 
 impl<T: Copy> Items<T> {
-    ghost use Rattle.std.specs.Prelude.{◌≡◌, IfOk};
+    ghost use Rattle.std.specs.Prelude.{◌≡◌, ◌+◌, ◌≤◌, ◌++◌, length, IfOk};
     ghost use Rattle.cl_value.specs.Room.{Room};
+
+    /// Puts the values last, in their order, into room that was made before. It takes no memory.
+    pub fn push_all(&mut self, values: &[T])
+        requires { length values.now ≤ self.old.spare }
+        ensures items { self.new.items ≡ self.old.items ++ values.now }
+        ensures spare { self.new.spare + length values.now ≡ self.old.spare }
+    {
+        for value in values {
+            self.push(*value);
+        }
+    }
 
     /// A list of the same items. `NoMemory` comes where the allocator refused their room.
     pub fn copy(&self, alloc: Global) -> Result<Items<T>, NoMemory>

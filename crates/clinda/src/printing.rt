@@ -1,4 +1,4 @@
-ghost use Rattle.std.specs.Prelude.{◌≡◌, ◌+◌, ◌≤◌, ◌++◌, length};
+ghost use Rattle.std.specs.Prelude.{◌≡◌, ◌+◌, ◌≤◌, ◌++◌};
 ghost use Rattle.cl_value.specs.Room.{Room};
 ghost use Rattle.cl_model.specs.SmallMeaning.{printed};
 
@@ -9,17 +9,6 @@ use itoa::Buffer;
 /// The most bytes that a `printf` of an `int` prints: a sign, ten digits and the end of the line.
 pub const MOST_PRINTED: usize = 12;
 
-// Puts bytes at the end, into room that was made before.
-fn push_bytes(output: &mut Items<u8>, bytes: &[u8])
-    requires { length bytes.now ≤ output.old.spare }
-    ensures items { output.new.items ≡ output.old.items ++ bytes.now }
-    ensures spare { output.new.spare + length bytes.now ≡ output.old.spare }
-{
-    for byte in bytes {
-        output.push(*byte);
-    }
-}
-
 /// Prints a value, into room that was made before.
 pub fn print_value(output: &mut Items<u8>, format: Format, value: i32)
     requires { 12 ≤ output.old.spare }
@@ -27,7 +16,7 @@ pub fn print_value(output: &mut Items<u8>, format: Format, value: i32)
     ensures spare { output.old.spare ≤ output.new.spare + 12 }
 {
     let mut buffer = Buffer::new();
-    push_bytes(output, buffer.format(value).as_bytes());
+    output.push_all(buffer.format(value).as_bytes());
     match format {
         Format::Number => {}
         Format::NumberAndLine => output.push(b'\n'),

@@ -33,7 +33,9 @@ impl Text {
     pub fn add(&mut self, bytes: &[u8]) -> Result<(), NoMemory>
         ensures ok { OnOk result (self.new ≡ self.old ++ bytes.now) }
     {
-        push_all(&mut self.bytes, bytes)
+        self.bytes.reserve(bytes.len())?;
+        self.bytes.push_all(bytes);
+        Ok(())
     }
 
     /// Puts a number at the end, decimal without leading zeros.
@@ -62,18 +64,4 @@ impl Text {
     {
         self.bytes.as_slice()
     }
-}
-
-ghost use Rattle.std.specs.Prelude.{◌≡◌, ◌++◌, OnOk};
-ghost use Rattle.cl_value.specs.Room.{Room};
-
-// Puts bytes at the end of others.
-fn push_all(items: &mut Items<u8>, bytes: &[u8]) -> Result<(), NoMemory>
-    ensures ok { OnOk result (items.new.items ≡ items.old.items ++ bytes.now) }
-{
-    items.reserve(bytes.len())?;
-    for byte in bytes {
-        items.push(*byte);
-    }
-    Ok(())
 }

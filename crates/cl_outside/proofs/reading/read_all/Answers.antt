@@ -11,7 +11,7 @@ pub loop-buffer-preserved : goal.loop-buffer-preserved
 loop-buffer-preserved g c =
     let within : c.in-Ok.count ≤ length c.read.new.into = search rules in
     let front : take c.in-Ok.count (c.read.new.into ++ drop c.min-want.result c.loop-buffer.buffer) ≡ take c.in-Ok.count c.read.new.into = take-append-le _ _ _ within in
-    let more : c.push_all.new.items.items ≡ c.loop-buffer.all.items ++ take c.in-Ok.count c.read.new.into = cc (c.push_all.ensures.items, c.reserve.ensures.items, front) in
+    let more : c.push_all.new.self.items ≡ c.loop-buffer.all.items ++ take c.in-Ok.count c.read.new.into = cc (c.push_all.ensures.items, c.reserve.ensures.items, front) in
     record {
       few = omega (arith, length-take {A = ℕ}, length-append {A = ℕ}, ap length more);
       buffer = search rules;
