@@ -17,7 +17,7 @@ use Rattle.clinda.specs.Leaving.{IsRunStatus}
 use Rattle.clinda.specs.Answering.{Outside, SaysNothing, HasNoUnit, HasUnit, IsRun, text_of, Told, Untold, Reported, Unreported, Shown, Unshown, Judged, Accepts, Refuses, Unjudged, Read, Failed, Larger, NoRoom, All, Answered, NoCommand, Commanded}
 use Rattle.clinda.specs.Top.{Says, WordsClause, ReadClause, TooLargeClause, RefusesSource, JudgesSource, SourceClause, Writes, WrittenClause, IsSource, RunClause, TellsStuck, StuckClause, HaltedClause, ReadFaultClause, WriteFaultClause, IsText, OfWords, OfLarge, OfSource, OfRun, WritesFront, MemoryClause, Reports, ReportClause}
 use Rattle.clinda.proofs.PlaceLaws.{refused_once, refused_has_none}
-use Rattle.clinda.proofs.Sayings.{said_status, said_kept, said_rose, said_front, said_all, said_whole}
+use Rattle.clinda.proofs.Sayings.{said_status, said_kept, said_rose, said_front, said_all, said_own, said_whole}
 
 -- a command read a source of this length, all of it, and no read failed
 pub record ReadAll (words : List (List ℕ)) (source : List ℕ) (before after : Outside) : Type 0 where
@@ -327,7 +327,7 @@ module _ (words : List (List ℕ)) (status : ℕ) (report : Option PlainRun) (be
       let is_text : IsText words report before (text_of items run) = OfRun source items run (is_source source r) unit.accepted told refl in
       record {
         fault = λ _. fronts (text_of items run) is_text said;
-        memory = λ eight _. inl (record { text = text_of items run; is_text = is_text; whole = said_all said (λ five. absurd (omega (arith, five, eight))) });
+        memory = λ eight _. inl (record { text = text_of items run; is_text = is_text; whole = said_all said (λ five. absurd (omega (arith, five, eight))); own = if_report report run (λ (r : PlainRun). r.status ≡ 8) told (said_own said eight) });
         nothing = λ _ none. absurd (no_report report none (is_report report run told));
       }
   memory_clause (Silent source r items unit run told is eight silent) =

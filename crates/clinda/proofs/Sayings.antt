@@ -53,6 +53,11 @@ pub said_all : {text : List ℕ} {found status : ℕ} {before after : Option (Li
 said_all (Whole s a k) other = a
 said_all (Part n h s a r) other = absurd (other s)
 
+-- status 8 was the one that was found
+pub said_own : {text : List ℕ} {found status : ℕ} {before after : Option (List ℕ)} {f g : ℕ} → Said text found status before after f g → status ≡ 8 → found ≡ 8
+said_own (Whole s a k) eight = sym s ∙ eight
+said_own (Part n h s a r) eight = absurd (omega (arith, s, eight))
+
 -- where no write failed the whole text was written
 pub said_whole : {text : List ℕ} {found status : ℕ} {before after : Option (List ℕ)} {f g : ℕ} → Said text found status before after f g → Quiet f g → (status ≡ found) × Appends before text after
 said_whole (Whole s a k) quiet = (s, a)

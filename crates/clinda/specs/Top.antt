@@ -137,11 +137,12 @@ pub record WritesFront (words : List (List ℕ)) (report : Option PlainRun) (bef
   pub within : count ≤ length text
   pub front : Appends before.written (take count text) after.written
 
--- the whole of such a text was written
+-- the whole of such a text was written, and the status is the report's own
 pub record WritesWhole (words : List (List ℕ)) (report : Option PlainRun) (before after : Outside) : Type 0 where
   pub text : List ℕ
   pub is_text : IsText words report before text
   pub whole : Appends before.written text after.written
+  pub own : IfSome report (λ run. run.status ≡ 8)
 
 -- at status 5 a front of the text was written; at status 8 with a report the whole text or nothing, and
 -- without a report nothing

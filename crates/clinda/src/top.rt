@@ -205,7 +205,7 @@ pub fn clinda_plain<I: Source, O: Sink>(
     // A source of more bytes than the limit is refused.
     ensures too_large { TooLargeClause (words_in words.now) result.status (option_map plain_run result.report)
         (seen I.left O.written I.faults O.faults src.old out.old) (seen I.left O.written I.faults O.faults src.new out.new) }
-    // A source is refused at a place exactly where it has no unit.
+    // A source is refused exactly where it has no unit, at its first token that isn't in place.
     ensures source { SourceClause (words_in words.now) result.status (option_map plain_run result.report)
         (seen I.left O.written I.faults O.faults src.old out.old) (seen I.left O.written I.faults O.faults src.new out.new) }
     // A source with a unit gives the text of its run, and the status of the report.
@@ -223,7 +223,7 @@ pub fn clinda_plain<I: Source, O: Sink>(
     // Status 5 comes only where a write failed.
     ensures write_fault { WriteFaultClause result.status
         (seen I.left O.written I.faults O.faults src.old out.old) (seen I.left O.written I.faults O.faults src.new out.new) }
-    // At status 5 and 8 what was written is a front of the text.
+    // At status 5 what was written is a front of the text, at status 8 the whole text or nothing.
     ensures memory { MemoryClause (words_in words.now) result.status (option_map plain_run result.report)
         (seen I.left O.written I.faults O.faults src.old out.old) (seen I.left O.written I.faults O.faults src.new out.new) }
     // A report is there exactly where a process was run.
