@@ -37,6 +37,11 @@ same_tuple [] [] = true
 same_tuple (v ∷ vs) (w ∷ ws) = same_value v w && same_tuple vs ws
 same_tuple _ _ = false
 
+-- whether a slot may stand in a template: a formal isn't of text
+abbrev pub may_stand : Slot → Bool
+may_stand (slots.Formal types.Text) = false
+may_stand _ = true
+
 -- whether a slot takes a value: an actual its own, a formal each of its type
 abbrev pub accepts : Slot → Value → Bool
 accepts (slots.Actual v) w = same_value v w

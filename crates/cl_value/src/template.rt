@@ -3,18 +3,26 @@ use std::alloc::Global;
 use std::marker::Model;
 use std::sync::ledger::Ledger;
 
-/// A field of a template (Gelernter 1985): an actual, or a formal of a type other than text.
+/// A field of a template (Gelernter 1985): an actual, or a formal. A template has no formal of text.
 #[derive(Clone, Copy, Debug, PartialEq, Eq)]
 pub enum Slot {
     /// Matches this value alone.
     Actual(Value),
-    /// Matches each value of its type, and receives it. No source has one of text.
+    /// Matches each value of its type, and receives it. `Template::new` takes none of text.
     Formal(FieldType),
 }
 
 impl Slot {
     ghost use Rattle.std.specs.Prelude.{◌≡◌};
-    ghost use Rattle.cl_value.specs.Matching.{accepts};
+    ghost use Rattle.cl_value.specs.Matching.{accepts, may_stand};
+
+    /// Whether it may stand in a template: each actual, and each formal but one of text, which no
+    /// variable could receive.
+    pub fn may_stand(self) -> bool
+        ensures { result ≡ may_stand self }
+    {
+        !matches!(self, Slot::Formal(FieldType::Text))
+    }
 
     fn accepts(self, value: Value) -> bool
         ensures { result ≡ accepts self value }
@@ -26,7 +34,8 @@ impl Slot {
     }
 }
 
-/// What an `in`, `rd`, `inp` or `rdp` asks for: an ordered list of 1 to 16 actuals and formals.
+/// What an `in`, `rd`, `inp` or `rdp` asks for: an ordered list of 1 to 16 actuals and formals, of which
+/// none is a formal of text.
 ///
 /// Contracts see its slots in order, and for how many more there is room.
 #[derive(Drop)]
@@ -35,25 +44,29 @@ pub struct Template {
 }
 
 impl Model for Template {
-    ghost use Rattle.std.specs.Prelude.{◌<◌, ◌≤◌, length};
+    ghost use Rattle.std.specs.Prelude.{◌<◌, ◌≤◌, length, IsTrue};
+    ghost use Rattle.std.specs.List.{list_all};
     ghost use Rattle.cl_value.specs.Fields.{Slots};
+    ghost use Rattle.cl_value.specs.Matching.{may_stand};
 
     ghost Value = { Slots };
 
     ghost view = { λ t. t.slots };
 
-    ghost invariant = { λ t. (0 < length t.slots.items) × (length t.slots.items ≤ 16) };
+    ghost invariant = { λ t. (0 < length t.slots.items) × (length t.slots.items ≤ 16) × IsTrue (list_all may_stand t.slots.items) };
 }
 
 impl Template {
-    ghost use Rattle.std.specs.Prelude.{◌≡◌, ◌+◌, ◌<◌, ◌≤◌, length, slice_get, IfOk, Some};
+    ghost use Rattle.std.specs.Prelude.{◌≡◌, ◌+◌, ◌<◌, ◌≤◌, length, slice_get, IfOk, IsTrue, Some};
+    ghost use Rattle.std.specs.List.{list_all};
     ghost use Rattle.cl_value.specs.Room.{Room};
-    ghost use Rattle.cl_value.specs.Matching.{matches};
+    ghost use Rattle.cl_value.specs.Matching.{matches, may_stand};
 
     /// The template of these slots. It takes no memory.
     pub fn new(slots: Items<Slot>) -> Template
         requires some { 0 < length slots.items }
         requires few { length slots.items ≤ 16 }
+        requires stand { IsTrue (list_all may_stand slots.items) }
         ensures { result ≡ slots }
     {
         Template { slots }
@@ -64,6 +77,7 @@ impl Template {
         ensures same { result ≡ self }
         ensures some { 0 < length self.items }
         ensures few { length self.items ≤ 16 }
+        ensures stand { IsTrue (list_all may_stand self.items) }
     {
         let Template { slots } = self;
         slots
@@ -93,14 +107,16 @@ impl Template {
     /// The slot at a place, counted from 0.
     pub fn slot(&self, i: usize) -> Slot
         requires { i < length self.now.items }
-        ensures { slice_get self.now.items i ≡ Some result }
+        ensures value { slice_get self.now.items i ≡ Some result }
+        ensures stands { IsTrue (may_stand result) }
     {
         *self.slots.at(i)
     }
 
     /// The slots in order.
     pub fn slots(&self) -> &[Slot]
-        ensures { result.now ≡ self.now.items }
+        ensures value { result.now ≡ self.now.items }
+        ensures stand { IsTrue (list_all may_stand result.now) }
     {
         self.slots.as_slice()
     }

@@ -1,4 +1,6 @@
-ghost use Rattle.std.specs.Prelude.{◌≡◌, ◌<◌, ◌≤◌, length};
+ghost use Rattle.std.specs.Prelude.{◌≡◌, ◌<◌, ◌≤◌, length, IsTrue};
+ghost use Rattle.std.specs.List.{list_all};
+ghost use Rattle.cl_value.specs.Matching.{may_stand};
 
 use crate::{
     Act, Ask, FieldType, Items, Live, LiveField, NoMemory, Request, Slot, Steps, Template, Tuple,
@@ -24,6 +26,7 @@ fn tuple_of(alloc: Global, fields: &[Value]) -> Result<Tuple, NoMemory>
 fn template_of(alloc: Global, slots: &[Slot]) -> Result<Template, NoMemory>
     requires some { 0 < length slots.now }
     requires few { length slots.now ≤ 16 }
+    requires stand { IsTrue (list_all may_stand slots.now) }
 {
     Ok(Template::new(Items::from_slice(alloc, slots)?))
 }
@@ -188,6 +191,7 @@ fn check_matching<L: Ledger>(rt: &impl Abort, alloc: Global, blank: Blank) -> Re
         (Slot::Actual(Value::Text(1)), Value::Text(2), false),
     ];
     for (slot, value, wanted) in table {
+        assert!(rt; slot.may_stand());
         let template = template_of(alloc, [slot].as_slice())?;
         let tuple = tuple_of(alloc, [value].as_slice())?;
         assert_eq!(rt;
@@ -207,6 +211,21 @@ fn check_matching<L: Ledger>(rt: &impl Abort, alloc: Global, blank: Blank) -> Re
 #[test]
 fn matches_by_type_and_value(rt: HostRuntime) -> Result<(), Fail> {
     check_matching::<Brand>(&rt, rt.alloc(), Blank::new(1))
+}
+
+#[test]
+fn a_formal_of_text_may_not_stand(rt: HostRuntime) -> Result<(), Fail> {
+    let table = [
+        (Slot::Formal(FieldType::Text), false),
+        (Slot::Formal(FieldType::Int), true),
+        (Slot::Formal(FieldType::Long), true),
+        (Slot::Formal(FieldType::Char), true),
+        (Slot::Actual(Value::Text(0)), true),
+    ];
+    for (slot, wanted) in table {
+        assert_eq!(rt; slot.may_stand(), wanted, "{slot:?}");
+    }
+    Ok(())
 }
 
 #[test]

@@ -1,5 +1,6 @@
-ghost use Rattle.std.specs.Prelude.{◌≡◌, ◌+◌, ◌*◌, ◌^◌, ◌<◌, ◌≤◌, ◌∷◌, [], length, map, IfOk, OnOk, OnErr, pos};
+ghost use Rattle.std.specs.Prelude.{◌≡◌, ◌+◌, ◌*◌, ◌^◌, ◌<◌, ◌≤◌, ◌∷◌, [], length, map, IfOk, IsTrue, OnOk, OnErr, pos};
 ghost use Rattle.cl_value.specs.Room.{Room};
+ghost use Rattle.cl_value.specs.Matching.{may_stand};
 ghost use Rattle.cl_model.specs.Small.{is_known};
 ghost use Rattle.cl_model.specs.SmallViews.{plain_piece, plain_item};
 ghost use Rattle.cl_model.specs.SmallMeaning.{text_number, with_text, with_texts, texts_from};
@@ -95,7 +96,8 @@ fn value_of(texts: &[Items<u8>], piece: &Piece) -> Value
 // The slot of a piece of an `in` or `inp`.
 fn slot_of(texts: &[Items<u8>], piece: &Piece) -> Slot
     requires { length texts.now < 2 ^ 32 }
-    ensures { result ≡ spec.slot_of (table texts.now) (plain_piece piece.now) }
+    ensures value { result ≡ spec.slot_of (table texts.now) (plain_piece piece.now) }
+    ensures stands { IsTrue (may_stand result) }
 {
     match piece {
         Piece::Formal(_) => Slot::Formal(FieldType::Int),

@@ -11,7 +11,12 @@ fn single(alloc: Global, number: i32) -> Result<Tuple, NoMemory> {
     Ok(tuple)
 }
 
-fn template_of(alloc: Global, slot: Slot) -> Result<Template, NoMemory> {
+ghost use Rattle.std.specs.Prelude.{IsTrue};
+ghost use Rattle.cl_value.specs.Matching.{may_stand};
+
+fn template_of(alloc: Global, slot: Slot) -> Result<Template, NoMemory>
+    requires { IsTrue (may_stand slot) }
+{
     let mut slots = Items::new(alloc);
     slots.reserve(1)?;
     slots.push(slot);
