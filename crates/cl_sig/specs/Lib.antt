@@ -1,0 +1,11 @@
+pub mod Beside
+pub mod Signatures
+pub mod Instances
+pub mod Chains
+pub mod Numbers
+pub mod Partitions
+pub mod Fields
+pub mod Classes
+pub mod Shapes
+pub mod Suits
+pub mod Views
