@@ -1,2 +1,4 @@
+pub mod MatchLaws
+pub mod ChainLaws
 pub mod Numbering
 pub mod Rows

@@ -1,0 +1,13 @@
+//! The sets into which the sites of a program fall.
+//!
+//! Two sites are in one set exactly where a chain of sites that may match leads from one to the other
+//! (`cl_sig/specs/Chains.antt`). `partition` finds them by one look at each pair of sites, keeping for each
+//! site the least one to which it is joined so far, and numbers the sets by their least sites.
+#![tactic(auto)]
+
+mod labels;
+mod numbering;
+#[cfg(test)]
+mod tests;
+
+pub use numbering::{partition, sets_never_meet};
