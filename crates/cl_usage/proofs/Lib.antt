@@ -1,0 +1,6 @@
+pub mod FieldLaws
+pub mod BesideLaws
+pub mod Members
+pub mod ClassLaws
+pub mod LawProofs
+pub mod SuitProofs

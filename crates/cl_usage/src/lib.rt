@@ -1,0 +1,17 @@
+//! The classes and the shapes of sets.
+//!
+//! A class tells how a set can be stored, by what the text tells of its sites; the shape is what a store
+//! needs to know of a set (`cl_sig/specs/Classes.antt`, `Shapes.antt`). The laws say what a store may rely
+//! on: which templates match which tuples, and that each request at a site suits the shape of its set.
+#![tactic(auto)]
+
+mod class;
+mod fields;
+mod laws;
+mod shape;
+#[cfg(test)]
+mod tests;
+
+pub use class::class_of;
+pub use laws::{each_field_is_keyed, each_request_suits, each_tuple_matches};
+pub use shape::shape_of;
