@@ -1,11 +1,10 @@
 -- What a class tells of the fields of its sites.
-use Rattle.std.proofs.Common.{◌≡◌, ℕ, zero, suc, ◌<◌, Bool, true, false, ◌&&◌, not, List, [], ◌∷◌, length, map, Option, Some, None, refl, sym, ◌∙◌, ap, subst, arith, inl, inr}
-use Rattle.std.proofs.lemmas.Bool.{and_parts, cases_Bool, cases_eq, or_cases, true≢false}
+use Rattle.std.proofs.Common.{◌≡◌, ℕ, zero, suc, ◌<◌, Bool, true, false, List, [], ◌∷◌, Option, Some, None, refl, sym, ◌∙◌, ap, subst, arith, inl, inr}
+use Rattle.std.proofs.lemmas.Bool.{and_parts, cases_Bool, cases_eq, or_cases}
 use Rattle.std.specs.List.{list_all}
 use Rattle.std.specs.Prelude.{slice_get, ◌⊎◌, ◌||◌, if◌then◌else◌, is_some}
-use Rattle.cl_value.specs.Matching.{same_value}
 use Rattle.cl_value.specs.declared.value.Value.{Value}
-use Rattle.cl_sig.specs.Classes.{is_constant, has_constant, has_formal, has, is_formal, literal_of, shared_by, constant_at, is_fixed, is_received, is_key, arity, keyed_or_list, class}
+use Rattle.cl_sig.specs.Classes.{is_constant, has_constant, literal_of, shared_by, constant_at, is_fixed, is_received, is_key, arity, keyed_or_list, class}
 use Rattle.cl_sig.specs.Fields.{all_below, first_below, or_else}
 use Rattle.cl_sig.specs.Signatures.{PlainSignature}
 use Rattle.cl_sig.specs.declared.signature.Mark.{Mark}

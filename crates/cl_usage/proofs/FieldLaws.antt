@@ -1,9 +1,9 @@
 -- Tests of the fields from the first to the last.
-use Rattle.std.proofs.Common.{◌≡◌, ℕ, zero, suc, ◌+◌, ◌<◌, Bool, true, false, ◌&&◌, List, [], ◌∷◌, ◌++◌, length, take, Option, Some, None, get_or, refl, sym, ◌∙◌, ap, subst, arith, inl, inr, add-one, length-append}
-use Rattle.std.proofs.lemmas.Bool.{cases_eq, cases_Bool, and_from, and_left, and_right, and_parts, eq-eqb, ne_eqb}
+use Rattle.std.proofs.Common.{◌≡◌, ℕ, zero, suc, ◌+◌, ◌<◌, Bool, true, false, List, [], ◌∷◌, ◌++◌, length, take, Option, Some, None, get_or, refl, sym, ◌∙◌, ap, subst, arith, inl, inr, add-one}
+use Rattle.std.proofs.lemmas.Bool.{cases_eq, and_from, and_left, and_right, eq-eqb, ne_eqb}
 use Rattle.std.proofs.lemmas.List.{take_more, length-take-le}
 use Rattle.cl_value.specs.declared.value.Value.{Value}
-use Rattle.std.specs.Prelude.{if◌then◌else◌, slice_get}
+use Rattle.std.specs.Prelude.{if◌then◌else◌}
 use Rattle.cl_sig.specs.Classes.{constant_at}
 use Rattle.cl_sig.specs.Fields.{all_below, first_below, or_else}
 use Rattle.cl_sig.specs.Shapes.{sites_from, common_from, common_mark}

@@ -1,32 +1,28 @@
 -- The laws on which stores rely.
-use Rattle.std.proofs.Common.{◌≡◌, ℕ, zero, suc, ◌+◌, ◌<◌, Bool, true, false, ◌&&◌, not, List, [], ◌∷◌, length, map, Option, Some, None, refl, sym, ◌∙◌, ap, subst, arith, inl, inr}
-use Rattle.std.proofs.lemmas.Bool.{and_parts, and_from, cases_Bool, cases_eq, or_cases, true≢false, not-true, eq-eqb}
+use Rattle.std.proofs.Common.{◌≡◌, ℕ, ◌<◌, Bool, true, false, ◌&&◌, not, List, ◌∷◌, length, map, Some, refl, sym, ◌∙◌, ap, arith, inl, inr}
+use Rattle.std.proofs.lemmas.Bool.{and_parts, true≢false, not-true}
 use Rattle.std.proofs.lemmas.Option.{slice_get_within}
-use Rattle.std.specs.List.{list_all, list_any}
-use Rattle.std.specs.Prelude.{slice_get, ◌⊎◌, ◌||◌, ◌==◌, if◌then◌else◌, is_some, option_map, IsTrue}
-use Rattle.cl_value.specs.Matching.{matches, accepts, same_value, same_type, type_of}
-use Rattle.cl_value.specs.Plain.{PlainPart, Ready, Call, PlainAsk, Out, In, Rd, Inp, Rdp, Eval, Land, PlainRequest}
+use Rattle.std.specs.Prelude.{slice_get, ◌⊎◌, ◌||◌}
+use Rattle.cl_value.specs.Matching.{accepts, same_type, type_of}
 use Rattle.cl_value.specs.declared.value.Value.{Value}
 use Rattle.cl_value.specs.declared.value.Value.TheVariants as values
-use Rattle.cl_value.specs.declared.value.FieldType.{FieldType}
 use Rattle.cl_value.specs.declared.value.FieldType.TheVariants as types
 use Rattle.cl_value.specs.declared.template.Slot.{Slot}
 use Rattle.cl_value.specs.declared.template.Slot.TheVariants as slots
 use Rattle.cl_sig.specs.Beside.{all_beside}
 use Rattle.cl_sig.specs.Classes.{members, is_constant, has_constant, has_formal, has, is_formal, constant_at, is_fixed, is_received, is_given, is_text, is_key, arity, class}
-use Rattle.cl_sig.specs.Instances.{value_fits, slot_fits, part_fits, is_tuple_of, is_template_of}
+use Rattle.cl_sig.specs.Instances.{value_fits, slot_fits, is_template_of}
 use Rattle.cl_sig.specs.Partitions.{IsPartition}
 use Rattle.cl_sig.specs.Signatures.{PlainSignature, is_producer, mark_type}
 use Rattle.cl_sig.specs.Suits.{is_actual_at}
-use Rattle.cl_sig.specs.declared.signature.Kind.{Kind}
 use Rattle.cl_sig.specs.declared.signature.Mark.{Mark}
 use Rattle.cl_sig.specs.declared.signature.Mark.TheVariants as marks
 use Rattle.cl_sig.specs.declared.shape.Class.TheVariants as classes
-use Rattle.cl_sig.proofs.MatchLaws.{same_type-true, same_type-at, same_value-true, same_value-at, value_type, slot_fits_type}
-use Rattle.cl_usage.specs.Laws.{IsOf, IsTupleOf, IsTemplateOf, EachTupleMatches, EachFieldIsKeyed, is_number}
-use Rattle.cl_usage.proofs.BesideLaws.{beside_length, beside_some, beside_from, matches_from, map_at, exists_at}
+use Rattle.cl_sig.proofs.MatchLaws.{same_type-true, same_type-at, same_value-true, same_value-at, value_type}
+use Rattle.cl_usage.specs.Laws.{IsOf, IsTupleOf, EachTupleMatches, EachFieldIsKeyed, is_number}
+use Rattle.cl_usage.proofs.BesideLaws.{beside_length, beside_some, matches_from, map_at, exists_at}
 use Rattle.cl_usage.proofs.ClassLaws.{counter_fixed, queue_free, keyed_key, constant-all, constant_is, some_is}
-use Rattle.cl_usage.proofs.Members.{First, first_exists, member_passes, set_types}
+use Rattle.cl_usage.proofs.Members.{first_exists, member_passes, set_types}
 use Rattle.std.proofs.lemmas.List.{length-map}
 
 -- a field of the first site that is a literal of all is one of each site
@@ -139,6 +135,11 @@ pub text_at : (all rest : List PlainSignature) (first : PlainSignature) (f : ℕ
 text_at all rest first f mark e here =
     ap (λ x. is_text x f) e ∙ ap (has (λ x. same_type (mark_type x) types.Text)) here
 
+pub no_text_at : (all rest : List PlainSignature) (first : PlainSignature) (f : ℕ) (mark : Mark) (v : Value) → all ≡ first ∷ rest → slice_get first.fields f ≡ Some mark → is_text all f ≡ false → mark_type mark ≡ type_of v → is_number v ≡ true
+no_text_at all rest first f mark v e here no_text type =
+    number_from v (λ text.
+    absurd (true≢false (sym (same_type-at (mark_type mark) types.Text (type ∙ text)) ∙ sym (text_at all rest first f mark e here) ∙ no_text)))
+
 pub tuple_keyed : (sites : List PlainSignature) (numbers : List ℕ) (set f : ℕ) → IsPartition sites numbers → class (members sites numbers set) ≡ classes.Keyed f → (t : List Value) → IsTupleOf sites numbers set t → (v : Value) × (slice_get t f ≡ Some v) × (is_number v ≡ true)
 tuple_keyed sites numbers set f partition is_class t tuple =
     let key = keyed_key (members sites numbers set) f is_class in
@@ -147,9 +148,7 @@ tuple_keyed sites numbers set f partition is_class t tuple =
     let p = beside_some value_fits tuple.producer.fields t f value.0 tuple.instance value.1 in
     let first = first_exists sites numbers set tuple.site tuple.producer tuple.of.here tuple.of.number in
     let other = map_at mark_type tuple.producer.fields first.first.fields f p.0 (set_types sites numbers set tuple.site first.site tuple.producer first.first partition tuple.of first.of) p.1 in
-    let text : same_type (mark_type other.0) types.Text ≡ false = sym (text_at (members sites numbers set) first.rest first.first f other.0 first.all other.1) ∙ parts.0 in
-    let type : mark_type other.0 ≡ type_of value.0 = sym other.2 ∙ value_type p.0 value.0 p.2 in
-    (value.0, value.1, number_from value.0 (λ e. absurd (true≢false (sym (same_type-at (mark_type other.0) types.Text (type ∙ e)) ∙ text))))
+    (value.0, value.1, no_text_at (members sites numbers set) first.rest first.first f other.0 value.0 first.all other.1 parts.0 (sym other.2 ∙ value_type p.0 value.0 p.2))
 
 pub field_keyed : EachFieldIsKeyed
 field_keyed sites numbers set f partition is_class =

@@ -1,17 +1,16 @@
 -- The sites of a set: each has the types of the first.
-use Rattle.std.proofs.Common.{◌≡◌, ℕ, zero, suc, ◌<◌, Bool, true, false, ◌&&◌, not, List, [], ◌∷◌, length, map, Some, refl, sym, ◌∙◌, ap, subst, arith, inl, inr}
+use Rattle.std.proofs.Common.{◌≡◌, ℕ, zero, suc, Bool, true, ◌&&◌, not, List, [], ◌∷◌, map, Some, refl, sym, ◌∙◌, ap, subst, inl, inr}
 use Rattle.std.proofs.lemmas.Bool.{and_parts, cases_Bool, cases_eq, eq-eqb, ne_eqb}
 use Rattle.std.proofs.lemmas.Option.{slice_get_within}
 use Rattle.std.specs.List.{list_all}
 use Rattle.std.specs.Prelude.{slice_get, if◌then◌else◌}
 use Rattle.cl_sig.specs.Beside.{all_beside}
-use Rattle.cl_sig.specs.Chains.{may_pair, Leads, SameSet}
+use Rattle.cl_sig.specs.Chains.{may_pair, Leads}
 use Rattle.cl_sig.specs.Classes.{members}
 use Rattle.cl_sig.specs.Partitions.{IsPartition}
 use Rattle.cl_sig.specs.Signatures.{PlainSignature, is_producer, may_match, may_meet, mark_type, differ}
 use Rattle.cl_sig.specs.declared.signature.Mark.{Mark}
 use Rattle.cl_value.specs.Matching.{same_type}
-use Rattle.cl_value.specs.declared.value.FieldType.{FieldType}
 use Rattle.cl_sig.proofs.ChainLaws.{neighbours_exist}
 use Rattle.cl_sig.proofs.MatchLaws.{same_type-true}
 use Rattle.cl_usage.specs.Laws.{IsOf}

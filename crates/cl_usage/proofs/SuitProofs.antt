@@ -1,22 +1,22 @@
 -- A request that is an instance of its site's signature suits the shape of its set.
-use Rattle.std.proofs.Common.{◌≡◌, ℕ, zero, suc, ◌+◌, ◌<◌, Bool, true, false, ◌&&◌, not, List, [], ◌∷◌, length, map, Option, Some, None, refl, sym, ◌∙◌, ap, subst, arith, inl, inr}
+use Rattle.std.proofs.Common.{◌≡◌, ℕ, zero, suc, ◌+◌, ◌<◌, Bool, true, false, List, [], ◌∷◌, length, Option, Some, None, refl, sym, ◌∙◌, ap, subst, arith, inl, inr}
 use Rattle.std.proofs.lemmas.Bool.{and_from, cases_eq, eq-eqb, ne_eqb}
 use Rattle.std.proofs.lemmas.Option.{slice_get_within}
 use Rattle.std.specs.List.{list_any}
-use Rattle.std.specs.Prelude.{slice_get, ◌⊎◌, ◌||◌, ◌==◌, if◌then◌else◌, is_some, option_map, IsTrue}
-use Rattle.cl_value.specs.Matching.{same_value, same_type, type_of}
-use Rattle.cl_value.specs.Plain.{PlainPart, Ready, Call, PlainAsk, Out, In, Rd, Inp, Rdp, Eval, Land, PlainRequest}
+use Rattle.std.specs.Prelude.{slice_get, ◌||◌, ◌==◌, is_some}
+use Rattle.cl_value.specs.Matching.{type_of}
+use Rattle.cl_value.specs.Plain.{PlainPart, Ready, Call, PlainAsk, Out, In, Rd, Inp, Rdp, Eval, Land}
 use Rattle.cl_value.specs.declared.value.Value.{Value}
 use Rattle.cl_value.specs.declared.value.FieldType.{FieldType}
 use Rattle.cl_value.specs.declared.template.Slot.{Slot}
 use Rattle.cl_value.specs.declared.template.Slot.TheVariants as slots
 use Rattle.cl_sig.specs.Beside.{all_beside}
-use Rattle.cl_sig.specs.Classes.{members, constant_at, is_fixed, is_received, is_formal, arity, class}
-use Rattle.cl_sig.specs.Instances.{value_fits, slot_fits, part_fits, is_tuple_of, is_template_of, is_live_of, ask_fits, is_instance, is_instance_at, is_of_its_site}
+use Rattle.cl_sig.specs.Classes.{members, constant_at, is_fixed, is_formal, arity, class}
+use Rattle.cl_sig.specs.Instances.{value_fits, slot_fits, part_fits, is_tuple_of, is_template_of, is_live_of, ask_fits, is_instance, is_instance_at}
 use Rattle.cl_sig.specs.Partitions.{IsPartition}
 use Rattle.cl_sig.specs.Shapes.{sites_from, common_mark, common_from, common, shape}
 use Rattle.cl_sig.specs.Signatures.{PlainSignature, is_producer, mark_type}
-use Rattle.cl_sig.specs.Suits.{value_suits, slot_suits, part_suits, slot_type, is_literal, is_formal_slot, is_actual_at, class_suits, ask_suits, suits}
+use Rattle.cl_sig.specs.Suits.{value_suits, slot_suits, part_suits, slot_type, is_literal, is_formal_slot, class_suits, ask_suits}
 use Rattle.cl_sig.specs.declared.signature.Kind.{Kind}
 use Rattle.cl_sig.specs.declared.signature.Kind.TheVariants as kinds
 use Rattle.cl_sig.specs.declared.signature.Mark.{Mark}
@@ -28,7 +28,7 @@ use Rattle.cl_usage.specs.Laws.{IsOf, EachRequestSuits}
 use Rattle.cl_usage.proofs.BesideLaws.{beside_length, beside_some, beside_from, map_at}
 use Rattle.cl_usage.proofs.ClassLaws.{queue_free}
 use Rattle.cl_usage.proofs.LawProofs.{fixed_at, received_at, arity_is, types_length, template_keyed}
-use Rattle.cl_usage.proofs.Members.{First, first_exists, set_types}
+use Rattle.cl_usage.proofs.Members.{first_exists, set_types}
 
 -- the sites of a set have the site
 pub sites_have : (k : ℕ) (numbers : List ℕ) (set i : ℕ) → slice_get numbers i ≡ Some set → list_any (λ site. site == k + i) (sites_from k numbers set) ≡ true

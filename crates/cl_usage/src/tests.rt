@@ -28,11 +28,12 @@ fn add(
     fields: &[Mark],
 ) -> Result<(), NoMemory> {
     let fields = Items::from_slice(alloc, fields)?;
+    let place = 100 + (sites.len() % 100) as u32;
     sites.reserve(1)?;
     sites.push(Signature {
         kind,
         fields,
-        place: 100 + sites.len() as u32 % 100,
+        place,
     });
     Ok(())
 }

@@ -1,4 +1,4 @@
-use Rattle.std.proofs.Common.{◌+◌, ◌≤◌, map, arith}
+use Rattle.std.proofs.Common.{map, arith}
 use Rattle.cl_sig.specs.Classes.{members}
 use Rattle.cl_sig.specs.Views.{plain_signature}
 use Rattle.cl_usage.proofs.FieldLaws.{common_from-more}
