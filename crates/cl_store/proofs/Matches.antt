@@ -7,7 +7,7 @@ use Rattle.std.proofs.Math.Seq.{split_at}
 use Rattle.std.proofs.lemmas.Option.{slice_get_within, get_or_from_slice_get, slice_get-map}
 use Rattle.std.specs.Prelude.{option_map, slice_get, remove, All}
 use Rattle.cl_value.specs.Matching.{matches}
-use Rattle.cl_value.specs.Replay.{first_match, found, without_first}
+use Rattle.cl_value.specs.Replay.{first_match, found, without_first, without_place}
 use Rattle.cl_value.specs.declared.value.Value.{Value}
 use Rattle.cl_value.specs.declared.template.Slot.{Slot}
 
@@ -134,11 +134,30 @@ All-remove P xs i all = All-append P _ _ (All-take P i xs all) (All-drop P (suc 
 pub All-slice_get : {A : Type 0} (P : A → Type 0) (xs : List A) (i : ℕ) (x : A) → All P xs → slice_get xs i ≡ Some x → P x
 All-slice_get P xs i x all at = subst P (get_or_from_slice_get xs i x x at) (all i x (slice_get_within xs i x at))
 
+-- where nothing is found, the list without its first match is the list
+pub without_first-none : (ts : List (List Value)) (m : List Slot) → found ts m ≡ None → without_first ts m ≡ ts
+without_first-none ts m h =
+    elim (first_match ts m) as (λ o. first_match ts m ≡ o → without_first ts m ≡ ts) [
+      | None ↦ λ none. rw none refl
+      | Some i ↦ λ is.
+          let (u, (got, met)) = first_match-matches ts m i is in
+          let at = found-at ts m i is in
+          cc
+    ] refl
+
+-- what holds of each tuple holds of each that is left without the first match
+pub All-without_first : (P : List Value → Type 0) (ts : List (List Value)) (m : List Slot) → All P ts → All P (without_first ts m)
+All-without_first P ts m all =
+    elim (first_match ts m) as (λ o. All P (without_place ts o)) [ None ↦ all | Some i ↦ All-remove P ts i all ]
+
 -- the step of a search, and its end
 pub ruleset searches = (first_match-here, first_match-further)
 
 -- what stands at the place of the first match
 pub ruleset reads = (view_within, view_found)
+
+-- where nothing is found, nothing is left out
+pub ruleset misses = (without_first-none)
 
 -- what is left without the first match
 pub ruleset finds = (first_match-within, without_first-at)
