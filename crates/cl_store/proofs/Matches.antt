@@ -150,8 +150,23 @@ pub All-without_first : (P : List Value → Type 0) (ts : List (List Value)) (m 
 All-without_first P ts m all =
     elim (first_match ts m) as (λ o. All P (without_place ts o)) [ None ↦ all | Some i ↦ All-remove P ts i all ]
 
+-- where the oldest tuple matches it is the first match
+pub first_match-front : (t : List Value) (ts us : List (List Value)) (m : List Slot) → us ≡ t ∷ ts → matches m t ≡ true → first_match us m ≡ Some 0
+first_match-front t ts us m is met = rw is (first_match-yes t ts m met)
+
+-- what is found is the oldest tuple
+pub found-front : (t : List Value) (ts us : List (List Value)) (m : List Slot) → us ≡ t ∷ ts → matches m t ≡ true → found us m ≡ Some t
+found-front t ts us m is met = rw (is, met) refl
+
+-- and the later tuples are left
+pub without_first-front : (t : List Value) (ts us : List (List Value)) (m : List Slot) → us ≡ t ∷ ts → matches m t ≡ true → without_first us m ≡ ts
+without_first-front t ts us m is met = rw (is, met) refl
+
 -- the step of a search, and its end
 pub ruleset searches = (first_match-here, first_match-further)
+
+-- what stands at the front
+pub ruleset fronts = (first_match-front, found-front, without_first-front)
 
 -- what stands at the place of the first match
 pub ruleset reads = (view_within, view_found)

@@ -6,10 +6,12 @@
 //! at most. `play` is proved once over the trait, so that it holds of every store.
 #![tactic(auto)]
 
+mod next_tuple;
 mod playing;
 mod store;
 
 
 
+pub use next_tuple::NextTuple;
 pub use playing::play;
 pub use store::TupleStore;

@@ -1,5 +1,6 @@
 use super::*;
-use cl_value::{FieldType, Slot, Value};
+use cl_store::play;
+use cl_value::{Ask, FieldType, Slot, Value, What};
 use std::marker::Brand;
 use std::process::Abort;
 use std::sync::ledger::Blank;
