@@ -99,3 +99,6 @@ impl TupleStore for Counter {
     }
 }
 
+
+#[cfg(test)]
+mod tests;

@@ -111,3 +111,6 @@ impl TupleStore for Queue {
     }
 }
 
+
+#[cfg(test)]
+mod tests;

@@ -6,6 +6,8 @@ use Rattle.std.proofs.lemmas.List.Elements.{All-append, All-take, All-drop}
 use Rattle.std.proofs.Math.Seq.{split_at}
 use Rattle.std.proofs.lemmas.Option.{slice_get_within, get_or_from_slice_get, slice_get-map}
 use Rattle.std.specs.Prelude.{option_map, slice_get, remove, All}
+use Rattle.std.specs.List.{list_all}
+use Rattle.cl_store.proofs.Same.{both}
 use Rattle.cl_value.specs.Matching.{matches}
 use Rattle.cl_value.specs.Replay.{first_match, found, without_first, without_place}
 use Rattle.cl_value.specs.declared.value.Value.{Value}
@@ -162,6 +164,20 @@ found-front t ts us m is met = rw (is, met) refl
 pub without_first-front : (t : List Value) (ts us : List (List Value)) (m : List Slot) → us ≡ t ∷ ts → matches m t ≡ true → without_first us m ≡ ts
 without_first-front t ts us m is met = rw (is, met) refl
 
+-- where each tuple matches, and one more, each of all matches
+pub list_all-more : (ts : List (List Value)) (t : List Value) (m : List Slot) → list_all (matches m) ts ≡ true → matches m t ≡ true → list_all (matches m) (ts ++ t ∷ []) ≡ true
+list_all-more [] t m all met = rw met refl
+list_all-more (u ∷ ts) t m all met =
+    let parts = both (matches m u) (list_all (matches m) ts) all in
+    rw parts.0 (list_all-more ts t m parts.1 met)
+
+-- where each tuple matches, each of those that are left without the first match does
+pub list_all-without_first : (ts : List (List Value)) (m : List Slot) → list_all (matches m) ts ≡ true → list_all (matches m) (without_first ts m) ≡ true
+list_all-without_first [] m all = refl
+list_all-without_first (t ∷ ts) m all =
+    let parts = both (matches m t) (list_all (matches m) ts) all in
+    rw parts.0 parts.1
+
 -- the step of a search, and its end
 pub ruleset searches = (first_match-here, first_match-further)
 
@@ -170,6 +186,9 @@ pub ruleset fronts = (first_match-front, found-front, without_first-front)
 
 -- what stands at the place of the first match
 pub ruleset reads = (view_within, view_found)
+
+-- each tuple still matches
+pub ruleset still = (list_all-more, list_all-without_first)
 
 -- where nothing is found, nothing is left out
 pub ruleset misses = (without_first-none)
