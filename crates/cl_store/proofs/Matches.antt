@@ -1,8 +1,8 @@
 -- Facts about the first match of a list of tuples.
-use Rattle.std.proofs.Common.{◌≡◌, ℕ, suc, ◌+◌, ◌<◌, true, false, List, [], ◌∷◌, ◌++◌, length, map, get_or, take, drop, Option, Some, None, refl, sym, ◌∙◌, ap, arith, inl, inr, subst}
+use Rattle.std.proofs.Common.{◌≡◌, ℕ, suc, ◌+◌, ◌<◌, Bool, true, false, List, [], ◌∷◌, ◌++◌, length, map, get_or, take, drop, Option, Some, None, refl, sym, ◌∙◌, ap, arith, inl, inr, subst}
 use Rattle.std.proofs.lemmas.Bool.{cases_Bool}
 use Rattle.std.proofs.lemmas.List.{map-append, take-map, drop-map, length-map, length-take-le, take_more}
-use Rattle.std.proofs.lemmas.List.Elements.{All-append, All-take, All-drop}
+use Rattle.std.proofs.lemmas.List.Elements.{All-append, All-take, All-drop, All-head, All-tail}
 use Rattle.std.proofs.Math.Seq.{split_at}
 use Rattle.std.proofs.lemmas.Option.{slice_get_within, get_or_from_slice_get, slice_get-map}
 use Rattle.std.specs.Prelude.{option_map, slice_get, remove, All}
@@ -152,6 +152,15 @@ pub All-without_first : (P : List Value → Type 0) (ts : List (List Value)) (m 
 All-without_first P ts m all =
     elim (first_match ts m) as (λ o. All P (without_place ts o)) [ None ↦ all | Some i ↦ All-remove P ts i all ]
 
+-- what holds of each tuple holds of each after a take, whether it had one or not
+pub All-taken : (P : List Value → Type 0) (hit : Bool) (old new : List (List Value)) (m : List Slot) → All P old → (hit ≡ true → new ≡ without_first old m) → (hit ≡ false → new ≡ old) → All P new
+All-taken P hit old new m all left stays =
+    let Q : List (List Value) → Type 0 = λ ts. All P ts in
+    elim (cases_Bool hit) [
+      | inl met ↦ subst Q (sym (left met)) (All-without_first P old m all)
+      | inr unmet ↦ subst Q (sym (stays unmet)) all
+    ]
+
 -- where the oldest tuple matches it is the first match
 pub first_match-front : (t : List Value) (ts us : List (List Value)) (m : List Slot) → us ≡ t ∷ ts → matches m t ≡ true → first_match us m ≡ Some 0
 first_match-front t ts us m is met = rw is (first_match-yes t ts m met)
@@ -163,6 +172,13 @@ found-front t ts us m is met = rw (is, met) refl
 -- and the later tuples are left
 pub without_first-front : (t : List Value) (ts us : List (List Value)) (m : List Slot) → us ≡ t ∷ ts → matches m t ≡ true → without_first us m ≡ ts
 without_first-front t ts us m is met = rw (is, met) refl
+
+-- where one tuple matches, each of a list of nothing else does
+pub list_all-same : (u : List Value) (ts : List (List Value)) (m : List Slot) → All (λ t. t ≡ u) ts → matches m u ≡ true → list_all (matches m) ts ≡ true
+list_all-same u [] m all met = refl
+list_all-same u (t ∷ ts) m all met =
+    let here : matches m t ≡ true = ap (matches m) (All-head (λ w. w ≡ u) t ts all) ∙ met in
+    rw here (list_all-same u ts m (All-tail (λ w. w ≡ u) t ts all) met)
 
 -- where each tuple matches, and one more, each of all matches
 pub list_all-more : (ts : List (List Value)) (t : List Value) (m : List Slot) → list_all (matches m) ts ≡ true → matches m t ≡ true → list_all (matches m) (ts ++ t ∷ []) ≡ true

@@ -1,6 +1,5 @@
 use super::*;
-use cl_store::play;
-use cl_value::{Ask, FieldType, Slot, Value, What};
+use cl_value::{FieldType, Slot, Value};
 use std::marker::Brand;
 use std::process::Abort;
 use std::sync::ledger::Blank;
