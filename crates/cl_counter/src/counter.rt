@@ -99,6 +99,5 @@ impl TupleStore for Counter {
     }
 }
 
-
 #[cfg(test)]
 mod tests;

@@ -111,12 +111,7 @@ impl TupleStore for Listed {
     }
 
     #[tactic(auto, using(cl_store::proofs::Matches::finds))]
-    fn find<L: Ledger>(
-        &self,
-        template: &Template,
-        into: &mut Tuple,
-        steps: &mut Steps<L>,
-    ) -> bool {
+    fn find<L: Ledger>(&self, template: &Template, into: &mut Tuple, steps: &mut Steps<L>) -> bool {
         self.copy_first(template, into, steps).is_some()
     }
 

@@ -111,6 +111,5 @@ impl TupleStore for Queue {
     }
 }
 
-
 #[cfg(test)]
 mod tests;

@@ -87,7 +87,7 @@ no_landing (Land u) h t is = h
 pub answers-next : (all whats : List PlainWhat) (ts us : List (List Value)) (ask : PlainAsk) (rest asks : List PlainAsk) (what : PlainWhat) → all ≡ whats ++ answers ts asks → asks ≡ ask ∷ rest → what ≡ answer ts ask → us ≡ replayed ts what → all ≡ (whats ++ what ∷ []) ++ answers us rest
 answers-next all whats ts us ask rest asks what h split is after =
     let next : answers ts asks ≡ what ∷ answers us rest =
-      ap (answers ts) split ∙ cc in
+    ap (answers ts) split ∙ cc in
     h ∙ (ap (λ ws. whats ++ ws) next ∙ sym (append_assoc whats (what ∷ []) (answers us rest)))
 
 -- what is left after one more

@@ -10,8 +10,6 @@ mod next_tuple;
 mod playing;
 mod store;
 
-
-
 pub use next_tuple::NextTuple;
 pub use playing::play;
 pub use store::TupleStore;

@@ -1,13 +1,13 @@
-use crate::TupleStore;
-use cl_value::{Ask, Items, NoMemory, Steps, Template, Tuple, What};
-use std::alloc::Global;
-use std::sync::ledger::Ledger;
-
 ghost use Rattle.std.specs.Prelude.{◌≡◌, ◌≤◌, ℕ, List, ◌++◌, length, map, option_map, All, Contains, IsTrue, IfOk, OnErr, take as front};
 ghost use Rattle.cl_value.specs.Views.{plain_ask, plain_what};
 ghost use Rattle.cl_value.specs.Replay.{found, without_first, replayed};
 ghost use Rattle.cl_store.specs.Answers.{answer, answers, left_after, tuple_of, tuples_of, template_of, templates_of, IsStoreAsk};
 ghost use Rattle.cl_value.specs.declared.value.Value.{Value};
+
+use crate::TupleStore;
+use cl_value::{Ask, Items, NoMemory, Steps, Template, Tuple, What};
+use std::alloc::Global;
+use std::sync::ledger::Ledger;
 
 /// Does the asks one after another, and gives what was done. An `in` or `rd` for which nothing matches
 /// counts as the miss of an `inp` or `rdp`.

@@ -70,12 +70,7 @@ pub trait TupleStore {
 
     /// Puts the fields of the first tuple that matches into `into`, and leaves it in the store. False comes
     /// exactly where none matches, and then `into` stays. It takes no memory.
-    fn find<L: Ledger>(
-        &self,
-        template: &Template,
-        into: &mut Tuple,
-        steps: &mut Steps<L>,
-    ) -> bool
+    fn find<L: Ledger>(&self, template: &Template, into: &mut Tuple, steps: &mut Steps<L>) -> bool
         requires fits { IsTrue (fits self.now (content self.now) template.now.items) }
         requires room { HasRoom 16 into.old }
         ensures value { result ≡ is_some (first_match (content self.now) template.now.items) }

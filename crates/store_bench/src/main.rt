@@ -3,6 +3,12 @@
 //! A line has the name of a store and a number. The answer is how many takes had a tuple.
 #![tactic(auto)]
 
+ghost use Rattle.std.specs.Prelude.{◌≡◌, ◌<◌, ◌≤◌, List, [], ◌∷◌, All, IsTrue, IfOk, pos};
+ghost use Rattle.cl_value.specs.Room.{Room};
+ghost use Rattle.cl_value.specs.declared.value.Value.{Value as Field};
+ghost use Rattle.cl_value.specs.declared.value.Value.TheVariants as values;
+ghost use Rattle.cl_value.specs.declared.template.Slot.TheVariants as slots;
+
 use cl_counter::Counter;
 use cl_list::Listed;
 use cl_queue::Queue;
@@ -12,12 +18,6 @@ use std::alloc::Global;
 use std::io;
 use std::marker::Brand;
 use std::sync::ledger::{Blank, Ledger};
-
-ghost use Rattle.std.specs.Prelude.{◌≡◌, ◌<◌, ◌≤◌, List, [], ◌∷◌, All, IsTrue, IfOk, pos};
-ghost use Rattle.cl_value.specs.Room.{Room};
-ghost use Rattle.cl_value.specs.declared.value.Value.{Value as Field};
-ghost use Rattle.cl_value.specs.declared.value.Value.TheVariants as values;
-ghost use Rattle.cl_value.specs.declared.template.Slot.TheVariants as slots;
 
 // Adds the tuple `count` times, then takes the template's match as often. How often there was one.
 fn fill_and_empty<S: TupleStore, L: Ledger>(

@@ -1,3 +1,7 @@
+ghost use Rattle.std.specs.Prelude.{◌≡◌, ◌<◌, List, [], ◌∷◌, IsTrue, IfOk};
+ghost use Rattle.cl_value.specs.Room.{Room, HasRoom};
+ghost use Rattle.cl_value.specs.declared.value.Value.{Value as Field};
+
 use super::*;
 use cl_value::{Items, Slot, Value};
 use std::alloc::Global;
@@ -5,10 +9,6 @@ use std::marker::Brand;
 use std::process::Abort;
 use std::sync::ledger::Blank;
 use std::test::Fail;
-
-ghost use Rattle.std.specs.Prelude.{◌≡◌, ◌<◌, List, [], ◌∷◌, IsTrue, IfOk};
-ghost use Rattle.cl_value.specs.Room.{Room, HasRoom};
-ghost use Rattle.cl_value.specs.declared.value.Value.{Value as Field};
 
 fn single(alloc: Global, value: Value) -> Result<Tuple, NoMemory>
     ensures { IfOk result (λ t. t.items ≡ value ∷ []) }

@@ -1,10 +1,3 @@
-use super::*;
-use cl_value::{FieldType, Items, Slot, Value};
-use std::marker::Brand;
-use std::process::Abort;
-use std::sync::ledger::Blank;
-use std::test::Fail;
-
 ghost use Rattle.std.specs.Prelude.{◌≡◌, ◌<◌, [], ◌∷◌, true, IfOk, OnOk};
 ghost use Rattle.std.specs.List.{list_all};
 ghost use Rattle.cl_value.specs.Room.{Room};
@@ -13,6 +6,13 @@ ghost use Rattle.cl_value.specs.declared.value.FieldType.TheVariants as types;
 ghost use Rattle.cl_value.specs.declared.value.Value.TheVariants as values;
 ghost use Rattle.cl_value.specs.declared.template.Slot.TheVariants as slots;
 ghost use Rattle.cl_store.specs.Rooms.{Stored};
+
+use super::*;
+use cl_value::{FieldType, Items, Slot, Value};
+use std::marker::Brand;
+use std::process::Abort;
+use std::sync::ledger::Blank;
+use std::test::Fail;
 
 // ("q", number)
 fn numbered(alloc: Global, number: i32) -> Result<Tuple, NoMemory>
@@ -86,8 +86,15 @@ fn check_interleaved<L: Ledger>(
         put(queue, template, alloc, i32::from(1000 + number))?;
         assert!(rt; queue.take(template, &mut into, &mut steps));
         let oldest = number / 2;
-        let wanted = if number % 2 == 0 { oldest } else { 1000 + oldest };
-        assert_eq!(rt; into.fields(), [Value::Text(0), Value::Int(i32::from(wanted))].as_slice());
+        let wanted = if number % 2 == 0 {
+            oldest
+        } else {
+            1000 + oldest
+        };
+        assert_eq!(rt;
+            into.fields(),
+            [Value::Text(0), Value::Int(i32::from(wanted))].as_slice()
+        );
     }
     assert_eq!(rt; queue.len(), 1000);
     Ok(())

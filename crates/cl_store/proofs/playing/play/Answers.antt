@@ -44,7 +44,7 @@ loop-ask-preserved g c =
     let ask = plain_ask c.ask-item.result in
     let next : drop c.loop-ask.ask-index all ≡ ask ∷ drop (c.loop-ask.ask-index + 1) all = drop-next plain_ask _ c.args.asks.now.items _ _ c.as_slice-ask-items.ensures c.loop-ask-test.true c.ask-item.is in
     let own : All pool (tuple_of ask) =
-      All-tuple_of pool c.loop-ask.ask-index all _ ask next (All-weaker (Contains (tuples_of all)) pool (λ x h. Contains-append_right first (tuples_of all) x h) (tuples_of all) (All-contains_itself (tuples_of all))) in
+    All-tuple_of pool c.loop-ask.ask-index all _ ask next (All-weaker (Contains (tuples_of all)) pool (λ x h. Contains-append_right first (tuples_of all) x h) (tuples_of all) (All-contains_itself (tuples_of all))) in
     let asked : IsStoreAsk ask = All-ask IsStoreAsk c.loop-ask.ask-index all _ ask next c.requires.asks in
     let within = All-replayed pool before ask c.loop-ask.invariant.pool own (no_landing ask asked) in
     let what = plain_what c.in_ok-perform.field-0 in
