@@ -4,6 +4,7 @@ use crate::printing::{MOST_PRINTED, print_value};
 use crate::taking::Taking;
 use cl_list::Listed;
 use cl_model::{Format, Piece};
+use cl_store::TupleStore;
 use cl_value::{Act, Items, NoMemory, Steps, Template, Tuple, What};
 use std::alloc::Global;
 use std::marker::Model;

@@ -1,5 +1,6 @@
 use super::*;
-use cl_value::{FieldType, Slot, Value};
+use cl_store::play;
+use cl_value::{Ask, FieldType, Slot, Value, What};
 use std::marker::Brand;
 use std::process::Abort;
 use std::sync::ledger::Blank;
@@ -72,6 +73,62 @@ fn check_finds<L: Ledger>(rt: &impl Abort, alloc: Global, blank: Blank) -> Resul
     assert_eq!(rt; into.fields(), [Value::Int(6)].as_slice());
     assert_eq!(rt; list.len(), 2);
     Ok(())
+}
+
+ghost use Rattle.std.specs.Prelude.{All, OnOk, map};
+ghost use Rattle.cl_value.specs.Views.{plain_ask};
+ghost use Rattle.cl_store.specs.Answers.{IsStoreAsk};
+
+fn put(asks: &mut Items<Ask>, ask: Ask) -> Result<(), NoMemory>
+    requires before { All IsStoreAsk (map plain_ask asks.old.items) }
+    requires own { IsStoreAsk (plain_ask ask) }
+    ensures { OnOk result (All IsStoreAsk (map plain_ask asks.new.items)) }
+{
+    asks.reserve(1)?;
+    asks.push(ask);
+    Ok(())
+}
+
+fn check_plays<L: Ledger>(
+    rt: &impl Abort,
+    alloc: Global,
+    asks: &Items<Ask>,
+    blank: Blank,
+) -> Result<(), Fail>
+    requires asks { All IsStoreAsk (map plain_ask asks.now.items) }
+    requires name { blank.name ≡ L.name }
+    requires parts { blank.parts ≡ L.parts }
+    requires some { 0 < blank.parts }
+{
+    let mut steps: Steps<L> = Steps::new(blank);
+    let mut list = Listed::new(alloc);
+    let done = play(alloc, &mut list, asks, &mut steps)?;
+    assert!(rt;
+        matches!(
+            done.as_slice(),
+            [
+                What::Out(_),
+                What::Rd(_, _),
+                What::InpMiss(_),
+                What::In(_, _),
+                What::RdpMiss(_),
+            ]
+        )
+    );
+    assert_eq!(rt; list.len(), 0);
+    Ok(())
+}
+
+#[test]
+fn asks_are_played(rt: HostRuntime) -> Result<(), Fail> {
+    let alloc = rt.alloc();
+    let mut asks = Items::new(alloc);
+    put(&mut asks, Ask::Out(single(alloc, 5)?))?;
+    put(&mut asks, Ask::Rd(template_of(alloc, Slot::Actual(Value::Int(5)))?))?;
+    put(&mut asks, Ask::Inp(template_of(alloc, Slot::Actual(Value::Int(6)))?))?;
+    put(&mut asks, Ask::In(template_of(alloc, Slot::Formal(FieldType::Int))?))?;
+    put(&mut asks, Ask::Rdp(template_of(alloc, Slot::Formal(FieldType::Int))?))?;
+    check_plays::<Brand>(&rt, alloc, &asks, Blank::new(1))
 }
 
 #[test]

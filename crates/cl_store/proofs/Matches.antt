@@ -1,13 +1,15 @@
 -- Facts about the first match of a list of tuples.
-use Rattle.std.proofs.Common.{◌≡◌, ℕ, suc, ◌+◌, ◌<◌, true, false, List, [], ◌∷◌, ◌++◌, length, map, get_or, take, drop, Option, Some, None, refl, sym, ◌∙◌, ap, arith, inl, inr, subst}
+use Rattle.std.proofs.Common.{◌≡◌, ℕ, suc, ◌+◌, ◌<◌, Bool, true, false, List, [], ◌∷◌, ◌++◌, length, map, get_or, take, drop, Option, Some, None, refl, sym, ◌∙◌, ap, arith, inl, inr, subst}
 use Rattle.std.proofs.lemmas.Bool.{cases_Bool}
 use Rattle.std.proofs.lemmas.List.{map-append, take-map, drop-map, length-map, length-take-le, take_more}
-use Rattle.std.proofs.lemmas.List.Elements.{All-append, All-take, All-drop}
+use Rattle.std.proofs.lemmas.List.Elements.{All-append, All-take, All-drop, All-head, All-tail}
 use Rattle.std.proofs.Math.Seq.{split_at}
 use Rattle.std.proofs.lemmas.Option.{slice_get_within, get_or_from_slice_get, slice_get-map}
 use Rattle.std.specs.Prelude.{option_map, slice_get, remove, All}
+use Rattle.std.specs.List.{list_all}
+use Rattle.cl_store.proofs.Same.{both}
 use Rattle.cl_value.specs.Matching.{matches}
-use Rattle.cl_value.specs.Replay.{first_match, found, without_first}
+use Rattle.cl_value.specs.Replay.{first_match, found, without_first, without_place}
 use Rattle.cl_value.specs.declared.value.Value.{Value}
 use Rattle.cl_value.specs.declared.template.Slot.{Slot}
 
@@ -134,11 +136,78 @@ All-remove P xs i all = All-append P _ _ (All-take P i xs all) (All-drop P (suc 
 pub All-slice_get : {A : Type 0} (P : A → Type 0) (xs : List A) (i : ℕ) (x : A) → All P xs → slice_get xs i ≡ Some x → P x
 All-slice_get P xs i x all at = subst P (get_or_from_slice_get xs i x x at) (all i x (slice_get_within xs i x at))
 
+-- where nothing is found, the list without its first match is the list
+pub without_first-none : (ts : List (List Value)) (m : List Slot) → found ts m ≡ None → without_first ts m ≡ ts
+without_first-none ts m h =
+    elim (first_match ts m) as (λ o. first_match ts m ≡ o → without_first ts m ≡ ts) [
+      | None ↦ λ none. rw none refl
+      | Some i ↦ λ is.
+          let (u, (got, met)) = first_match-matches ts m i is in
+          let at = found-at ts m i is in
+          cc
+    ] refl
+
+-- what holds of each tuple holds of each that is left without the first match
+pub All-without_first : (P : List Value → Type 0) (ts : List (List Value)) (m : List Slot) → All P ts → All P (without_first ts m)
+All-without_first P ts m all =
+    elim (first_match ts m) as (λ o. All P (without_place ts o)) [ None ↦ all | Some i ↦ All-remove P ts i all ]
+
+-- what holds of each tuple holds of each after a take, whether it had one or not
+pub All-taken : (P : List Value → Type 0) (hit : Bool) (old new : List (List Value)) (m : List Slot) → All P old → (hit ≡ true → new ≡ without_first old m) → (hit ≡ false → new ≡ old) → All P new
+All-taken P hit old new m all left stays =
+    let Q : List (List Value) → Type 0 = λ ts. All P ts in
+    elim (cases_Bool hit) [
+      | inl met ↦ subst Q (sym (left met)) (All-without_first P old m all)
+      | inr unmet ↦ subst Q (sym (stays unmet)) all
+    ]
+
+-- where the oldest tuple matches it is the first match
+pub first_match-front : (t : List Value) (ts us : List (List Value)) (m : List Slot) → us ≡ t ∷ ts → matches m t ≡ true → first_match us m ≡ Some 0
+first_match-front t ts us m is met = rw is (first_match-yes t ts m met)
+
+-- what is found is the oldest tuple
+pub found-front : (t : List Value) (ts us : List (List Value)) (m : List Slot) → us ≡ t ∷ ts → matches m t ≡ true → found us m ≡ Some t
+found-front t ts us m is met = rw (is, met) refl
+
+-- and the later tuples are left
+pub without_first-front : (t : List Value) (ts us : List (List Value)) (m : List Slot) → us ≡ t ∷ ts → matches m t ≡ true → without_first us m ≡ ts
+without_first-front t ts us m is met = rw (is, met) refl
+
+-- where one tuple matches, each of a list of nothing else does
+pub list_all-same : (u : List Value) (ts : List (List Value)) (m : List Slot) → All (λ t. t ≡ u) ts → matches m u ≡ true → list_all (matches m) ts ≡ true
+list_all-same u [] m all met = refl
+list_all-same u (t ∷ ts) m all met =
+    let here : matches m t ≡ true = ap (matches m) (All-head (λ w. w ≡ u) t ts all) ∙ met in
+    rw here (list_all-same u ts m (All-tail (λ w. w ≡ u) t ts all) met)
+
+-- where each tuple matches, and one more, each of all matches
+pub list_all-more : (ts : List (List Value)) (t : List Value) (m : List Slot) → list_all (matches m) ts ≡ true → matches m t ≡ true → list_all (matches m) (ts ++ t ∷ []) ≡ true
+list_all-more [] t m all met = rw met refl
+list_all-more (u ∷ ts) t m all met =
+    let parts = both (matches m u) (list_all (matches m) ts) all in
+    rw parts.0 (list_all-more ts t m parts.1 met)
+
+-- where each tuple matches, each of those that are left without the first match does
+pub list_all-without_first : (ts : List (List Value)) (m : List Slot) → list_all (matches m) ts ≡ true → list_all (matches m) (without_first ts m) ≡ true
+list_all-without_first [] m all = refl
+list_all-without_first (t ∷ ts) m all =
+    let parts = both (matches m t) (list_all (matches m) ts) all in
+    rw parts.0 parts.1
+
 -- the step of a search, and its end
 pub ruleset searches = (first_match-here, first_match-further)
 
+-- what stands at the front
+pub ruleset fronts = (first_match-front, found-front, without_first-front)
+
 -- what stands at the place of the first match
 pub ruleset reads = (view_within, view_found)
+
+-- each tuple still matches
+pub ruleset still = (list_all-more, list_all-without_first)
+
+-- where nothing is found, nothing is left out
+pub ruleset misses = (without_first-none)
 
 -- what is left without the first match
 pub ruleset finds = (first_match-within, without_first-at)
