@@ -4,12 +4,14 @@
 //! plain bytes. The crate has no calls but those of its list.
 #![tactic(auto)]
 
+mod fault;
 mod items;
 mod mark;
 mod span;
 mod token;
 mod word;
 
+pub use fault::LexKind;
 pub use items::{Items, NoMemory};
 pub use mark::{MARKS, Mark};
 pub use span::Span;
