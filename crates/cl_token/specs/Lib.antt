@@ -1,3 +1,4 @@
+pub mod Heads
 pub mod Scanning
 pub mod Tails
 pub mod Views

@@ -3,6 +3,8 @@
 
 mod byte;
 mod comment;
+mod line;
 mod literal;
+mod put;
 mod stop;
 mod table;
