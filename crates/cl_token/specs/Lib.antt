@@ -1,4 +1,5 @@
 pub mod Heads
 pub mod Scanning
+pub mod Steps
 pub mod Tails
 pub mod Views

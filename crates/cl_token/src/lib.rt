@@ -6,5 +6,6 @@ mod comment;
 mod line;
 mod literal;
 mod put;
+mod scan;
 mod stop;
 mod table;
