@@ -1,4 +1,5 @@
 pub mod Heads
+pub mod Lexing
 pub mod Scanning
 pub mod Steps
 pub mod Tails

@@ -19,6 +19,7 @@ use std::alloc::Global;
 
 /// A place between two parts of a source: the bytes behind it, and whether only spaces and tabs stand
 /// before it in its line.
+#[derive(Clone, Copy)]
 pub struct Place<'a> {
     pub rest: &'a [u8],
     pub fresh: bool,
