@@ -1,5 +1,12 @@
 pub mod Characters
 pub mod Comments
+pub mod Complete
+pub mod Failing
+pub mod Laws
 pub mod Names
+pub mod Pieces
 pub mod Runs
+pub mod Scanned
+pub mod Sound
 pub mod Values
+pub mod Walk

@@ -30,8 +30,8 @@ TellsFault _ source = Unit {0}
 
 -- a source has at most one fault
 pub record SameFault (place place' : ℕ) (kind kind' : LexKind) : Type 0 where
-  pub place : place ≡ place'
-  pub kind : kind ≡ kind'
+  pub same_place : place ≡ place'
+  pub same_kind : kind ≡ kind'
 
 abbrev pub OneFault : Type 0
 OneFault = (source : List ℕ) (place place' : ℕ) (kind kind' : LexKind) → IsFaultAt source place kind → IsFaultAt source place' kind' → SameFault place place' kind kind'
