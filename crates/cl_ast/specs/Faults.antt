@@ -1,6 +1,6 @@
 -- Where and why a source isn't tokens: at the first place where scanning from the left can't go on. (The
 -- kinds and their places: this project.)
-use Rattle.std.specs.Prelude.{ℕ, ◌+◌, ◌≡◌, ◌==◌, Bool, true, false, not, ◌||◌, ◌&&◌, ◌⊎◌, List, [], ◌∷◌, length, Option, Some, None, is_some}
+use Rattle.std.specs.Prelude.{ℕ, ◌+◌, ◌≡◌, ◌==◌, Bool, true, false, not, ◌||◌, ◌&&◌, ◌⊎◌, List, [], ◌∷◌, length, Option, Some, None, is_some, if◌then◌else◌}
 use Rattle.cl_ast.specs.declared.fault.LexKind.{LexKind}
 use Rattle.cl_ast.specs.declared.fault.LexKind.TheVariants as faults
 use Rattle.cl_ast.specs.Bytes.{is_separator, is_digit, is_letter, begins_with}
@@ -20,12 +20,12 @@ begins_mark (byte ∷ next ∷ bytes) = is_some (mark_of (byte ∷ next ∷ []))
 abbrev pub begins_line : Bool → List ℕ → Bool
 begins_line fresh bytes = fresh && begins_with (λ byte. byte == 35) bytes
 
--- whether a comment begins here that ends with `*/`, and the bytes in it
+-- the bytes behind a `/*` that stands here
 abbrev pub block_of : List ℕ → Option (List ℕ)
-block_of (byte ∷ next ∷ bytes) = elim ((byte == 47) && (next == 42)) [ true ↦ Some bytes | false ↦ None ]
+block_of (byte ∷ next ∷ bytes) = if (byte == 47) && (next == 42) then Some bytes else None
 block_of _ = None
 
--- whether it has no end
+-- whether no `*/` follows it
 abbrev pub is_open_block : Option (List ℕ) → Bool
 is_open_block None = false
 is_open_block (Some bytes) = not (is_some (after_close bytes))

@@ -1,8 +1,14 @@
+pub mod Betweens
+pub mod Bounds
 pub mod Characters
+pub mod Closing
 pub mod Comments
 pub mod Complete
 pub mod Failing
 pub mod Laws
+pub mod LiteralSound
+pub mod Literals
+pub mod MarkSound
 pub mod Names
 pub mod Pieces
 pub mod Runs

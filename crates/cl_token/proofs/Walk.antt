@@ -11,7 +11,7 @@ use Rattle.cl_token.specs.Scanning.{Step, Goes, Stops, step}
 use Rattle.cl_token.proofs.Laws.{Found}
 use Rattle.cl_token.proofs.Sound.{sound}
 use Rattle.cl_token.proofs.Complete.{complete}
-use Rattle.cl_token.proofs.Failing.{fails_sound, fails_complete, nothing_fails, fails_within}
+use Rattle.cl_token.proofs.Failing.{fails_sound, fails_complete, nothing_fails}
 use Rattle.cl_token.proofs.Pieces.{never_empty}
 use Rattle.cl_token.proofs.Scanned.{scanned}
 
