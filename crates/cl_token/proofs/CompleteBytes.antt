@@ -1,6 +1,6 @@
 -- Kinds of bytes that exclude each other, a token by its place, and the step at a list of bytes.
 use Rattle.std.proofs.Common.{◌≡◌, ℕ, ◌+◌, ◌-◌, ◌<◌, ◌≤◌, Bool, true, false, cond, eqb, leb, not, ◌&&◌, ◌||◌, List, [], ◌∷◌, ◌++◌, length, Option, Some, None, refl, sym, ap, subst, ◌∙◌, inl, inr, ◌⊎◌, arith}
-use Rattle.std.proofs.lemmas.Bool.{cases_Bool, and_parts, and_from, or_cases, or_from, or_parts, or_left, or_right, eqb-true, ne_eqb, leb-true, le-leb}
+use Rattle.std.proofs.lemmas.Bool.{cases_Bool, and_parts, and_from, or_cases, or_from, or_parts, or_left, or_right, eqb-true, ne_eqb, leb-true, le-leb, not_from_false}
 use Rattle.cl_ast.specs.declared.fault.LexKind.TheVariants as faults
 use Rattle.cl_ast.specs.Plain.{PlainKind, PlainToken}
 use Rattle.cl_ast.specs.Bytes.{is_between, is_line_end, is_space, is_blank, is_separator, is_digit, is_hexadecimal_digit, is_letter, is_name_byte, is_x, is_suffix, begins_with}
@@ -86,6 +86,9 @@ blank_no_name byte e =
       | inl t ↦ let h = name_bound byte t in true_is_false (sym e ∙ not_blank byte (omega arith))
       | inr f ↦ f
     ]
+
+pub name_in_line : (byte : ℕ) → is_name_byte byte ≡ true → not (is_line_end byte) ≡ true
+name_in_line byte e = let h = name_bound byte e in not_from_false (is_line_end byte) (ne_eqb byte 10 (λ ten. omega arith))
 
 pub suffix_name : (byte : ℕ) → is_suffix byte ≡ true → is_name_byte byte ≡ true
 suffix_name byte e =

@@ -1,7 +1,12 @@
 pub mod Characters
 pub mod Comments
 pub mod CompleteBytes
+pub mod CompleteDefines
 pub mod CompleteFills
+pub mod CompleteLexemes
+pub mod CompleteLiterals
+pub mod CompleteMarks
+pub mod CompleteTails
 pub mod Names
 pub mod Runs
 pub mod Values
