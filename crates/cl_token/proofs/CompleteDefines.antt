@@ -238,6 +238,54 @@ minus_token total start None place p long e = cond-false (begins_with (λ byte. 
 minus_token total start (Some blanks) place p long e =
     ap (λ (t : PlainToken). t ∷ []) (token_is total start (Punctuator marks.Minus) (45 ∷ (blanks ++ place)) (45 ∷ []) (blanks ++ place) long e (omega arith))
 
-joined : (total start : ℕ) (line : DefineLine) (rest : List ℕ) (kind : PlainKind) → IsPlace (place_of line rest) → lexeme_kind line.literal ≡ Some kind → length (bytes_of line rest) ≤ total → start ≡ total - length (bytes_of line rest)
-→ token_between total Define (bytes_of line rest) (behind_of line rest) ∷ token_between total (Name line.name) (named_of line rest) (after_name_of line rest) ∷ (minus_between total (value_of line rest) ++ token_between total kind (place_of line rest) (fillers_spelling line.tail ++ rest) ∷ []) ≡ define_tokens start line
-joined total start line rest kind p e long place = ?
+same_four : (a b c d : PlainToken) (m n : List PlainToken) (x : PlainToken) (y : List PlainToken) → a ≡ b → c ≡ d → m ≡ n → x ∷ [] ≡ y → a ∷ c ∷ (m ++ x ∷ []) ≡ b ∷ d ∷ (n ++ y)
+same_four a b c d m n x y p q r s = cc
+
+joined : (total start : ℕ) (line : DefineLine) (rest : List ℕ) (kind : PlainKind) → IsPlace (place_of line rest) → lexeme_kind line.literal ≡ Some kind → length (bytes_of line rest) ≤ total → start ≡ total - length (bytes_of line rest) → (token_between total Define (bytes_of line rest) (behind_of line rest) ∷ token_between total (Name line.name) (named_of line rest) (after_name_of line rest) ∷ (minus_between total (value_of line rest) ++ token_between total kind (place_of line rest) (fillers_spelling line.tail ++ rest) ∷ [])) ≡ define_tokens start line
+joined total start line rest kind p e long start_is =
+    let place = place_of line rest in
+    let value = value_of line rest in
+    let after_name = after_name_of line rest in
+    let named = named_of line rest in
+    let behind = behind_of line rest in
+    let bytes = bytes_of line rest in
+    let minus = minus_spelling line.minus in
+    let word = 35 ∷ (line.spaces ++ codes "define") in
+    let name_at = start + length word + length line.before in
+    let minus_at = name_at + length line.name + length line.between in
+    let literal_at = start + length (head_spelling line) in
+    let l1 : length place ≡ length (lexeme_spelling line.literal) + length (fillers_spelling line.tail ++ rest) = length-append (lexeme_spelling line.literal) (fillers_spelling line.tail ++ rest) in
+    let l2 : length value ≡ length minus + length place = length-append minus place in
+    let l3 : length after_name ≡ length line.between + length value = length-append line.between value in
+    let l4 : length named ≡ length line.name + length after_name = length-append line.name after_name in
+    let l5 : length behind ≡ length line.before + length named = length-append line.before named in
+    let l6 : length bytes ≡ length line.spaces + length behind + 7 = omega (arith, length-append line.spaces (codes "define" ++ behind)) in
+    let l7 : length word ≡ length line.spaces + 7 = omega (arith, length-append line.spaces (codes "define")) in
+    let l8 : length (line.between ++ minus) ≡ length line.between + length minus = length-append line.between minus in
+    let l9 : length (line.name ++ (line.between ++ minus)) ≡ length line.name + length (line.between ++ minus) = length-append line.name (line.between ++ minus) in
+    let l10 : length (line.before ++ (line.name ++ (line.between ++ minus))) ≡ length line.before + length (line.name ++ (line.between ++ minus)) = length-append line.before (line.name ++ (line.between ++ minus)) in
+    let l11 : length (head_spelling line) ≡ length line.spaces + length (line.before ++ (line.name ++ (line.between ++ minus))) + 7 = omega (arith, length-append line.spaces (codes "define" ++ (line.before ++ (line.name ++ (line.between ++ minus))))) in
+    let t1 : token_between total Define bytes behind ≡ token_from start Define word = token_is total start Define bytes word behind long start_is (omega arith) in
+    let t2 : token_between total (Name line.name) named after_name ≡ token_from name_at (Name line.name) line.name = token_is total name_at (Name line.name) named line.name after_name (omega arith) (omega arith) l4 in
+    let t3 : minus_between total value ≡ minus_tokens minus_at line.minus = minus_token total minus_at line.minus place p (omega arith) (omega arith) in
+    let t4 : token_between total kind place (fillers_spelling line.tail ++ rest) ≡ token_from literal_at kind (lexeme_spelling line.literal) = token_is total literal_at kind place (lexeme_spelling line.literal) (fillers_spelling line.tail ++ rest) (omega arith) (omega arith) l1 in
+    let t5 : token_between total kind place (fillers_spelling line.tail ++ rest) ∷ [] ≡ lexeme_tokens literal_at line.literal (lexeme_kind line.literal) =
+    ap (λ (t : PlainToken). t ∷ []) t4 ∙ ap (λ (o : Option PlainKind). lexeme_tokens literal_at line.literal o) (sym e) in
+    same_four _ _ _ _ _ _ _ _ t1 t2 t3 t5
+
+pub defined : (total : ℕ) (tokens : List PlainToken) (line : DefineLine) (rest : List ℕ) → length (define_spelling line ++ rest) ≤ total → is_define line ≡ true → begins_with in_line rest ≡ false → step_at total tokens true (define_spelling line ++ rest) ≡ Goes (tokens ++ define_tokens (total - length (define_spelling line ++ rest)) line) false rest
+defined total tokens line rest long form ends =
+    let known = known line rest form ends in
+    let kind = known.0 in
+    let k = known.1 in
+    let whole = whole_is line rest in
+    let more = line.spaces ++ (codes "define" ++ behind_of line rest) in
+    let size : length (define_spelling line ++ rest) ≡ length (bytes_of line rest) = ap length whole in
+    let start = total - length (define_spelling line ++ rest) in
+    let same = joined total start line rest kind (place_known line rest kind k) k.kind_is (omega arith) (omega arith) in
+    ap (step_at total tokens true) whole
+    ∙ at_hash total tokens more
+    ∙ ap (line_step_of total tokens (35 ∷ more)) (line_end_at line rest kind k)
+    ∙ ap (λ (x : List PlainToken). Goes (tokens ++ x) false rest) (tokens_by_word line.spaces (codes "define") (behind_of line rest) (word_is line rest kind k) total)
+    ∙ ap (λ (x : List PlainToken). Goes (tokens ++ x) false rest) (between_at line rest kind k total)
+    ∙ ap (λ (x : List PlainToken). Goes (tokens ++ x) false rest) same

@@ -1,5 +1,6 @@
 pub mod Characters
 pub mod Comments
+pub mod Complete
 pub mod CompleteBytes
 pub mod CompleteDefines
 pub mod CompleteFills
