@@ -1,12 +1,12 @@
 -- A part that stands at the front of the bytes is what a step reads.
-use Rattle.std.proofs.Common.{◌≡◌, ℕ, ◌-◌, ◌≤◌, Bool, true, false, ◌&&◌, List, [], ◌∷◌, ◌++◌, length, refl, sym, ap, subst, ◌∙◌}
+use Rattle.std.proofs.Common.{◌≡◌, ℕ, ◌-◌, ◌≤◌, Bool, true, false, List, [], ◌∷◌, ◌++◌, length, sym, ap, subst, ◌∙◌}
 use Rattle.std.proofs.lemmas.Bool.{and_parts}
 use Rattle.std.proofs.lemmas.List.{append-nil}
 use Rattle.cl_ast.specs.Plain.{PlainToken}
 use Rattle.cl_ast.specs.Bytes.{begins_with}
-use Rattle.cl_ast.specs.Pieces.{Piece, Fills, Lexed, Includes, Defines, Filler, IncludeLine, DefineLine, is_include, is_define, piece_spelling, is_piece, piece_goes_on, fresh_behind, piece_tokens, filler_spelling, include_spelling, define_spelling, define_tokens}
+use Rattle.cl_ast.specs.Pieces.{Piece, Fills, Lexed, Includes, Defines, is_include, is_define, piece_spelling, is_piece, piece_goes_on, fresh_behind, piece_tokens, include_spelling, define_spelling}
 use Rattle.cl_ast.specs.Splits.{IsFirst}
-use Rattle.cl_token.specs.Scanning.{Step, Goes, step}
+use Rattle.cl_token.specs.Scanning.{Goes, step}
 use Rattle.cl_token.proofs.CompleteBytes.{step_at}
 use Rattle.cl_token.proofs.CompleteFills.{filled}
 use Rattle.cl_token.proofs.CompleteLexemes.{lexed}

@@ -1,7 +1,7 @@
 -- A line that defines and stands at the front is what a step reads.
-use Rattle.std.proofs.Common.{◌≡◌, ℕ, ◌+◌, ◌-◌, ◌≤◌, Bool, true, false, cond, eqb, not, ◌&&◌, ◌||◌, List, [], ◌∷◌, ◌++◌, length, Option, Some, None, refl, sym, ap, subst, ◌∙◌, inl, inr, ◌⊎◌, arith, append_assoc}
-use Rattle.std.proofs.lemmas.Bool.{cases_Bool, and_parts, and_from, or_left, not-true, not_from_false, eqb-true, ne_eqb, cond-true, cond-false}
-use Rattle.std.proofs.lemmas.List.{append-nil, length-append}
+use Rattle.std.proofs.Common.{◌≡◌, ℕ, ◌+◌, ◌-◌, ◌≤◌, Bool, true, false, cond, eqb, not, ◌&&◌, List, [], ◌∷◌, ◌++◌, length, Option, Some, None, refl, sym, ap, ◌∙◌, arith, append_assoc}
+use Rattle.std.proofs.lemmas.Bool.{not-false, and_parts, and_from, or_left, not-true, eqb-true, cond-true, cond-false}
+use Rattle.std.proofs.lemmas.List.{length-append}
 use Rattle.std.specs.Prelude.{codes, option_map}
 use Rattle.std.specs.List.{list_all}
 use Rattle.cl_ast.specs.declared.mark.Mark.{Mark}
@@ -10,20 +10,17 @@ use Rattle.cl_ast.specs.declared.word.Word.{Word}
 use Rattle.cl_ast.specs.Plain.{PlainKind, Name, Define, Punctuator, PlainToken}
 use Rattle.cl_ast.specs.Bytes.{is_line_end, is_space, is_blank, is_digit, is_letter, is_name_byte, begins_with}
 use Rattle.cl_ast.specs.Lexemes.{Lexeme, Letters, Decimal, Hexadecimal, Quoted, Text, Sign, lexeme_spelling, lexeme_kind, lexeme_goes_on, word_or, word_of, is_reserved, letters_kind, mark_of, is_letters}
-use Rattle.cl_ast.specs.Pieces.{Filler, fillers_spelling, is_tail, DefineLine, minus_spelling, head_spelling, define_spelling, define_tokens, minus_tokens, lexeme_tokens, token_from, are_blanks, is_name, is_minus, is_name_kind, is_literal_kind, is_head, is_define}
-use Rattle.cl_ast.specs.Rows.{front_run, after_run, behind_first}
-use Rattle.cl_ast.specs.Ends.{LiteralEnd, Ends, literal_end, LineEnd, LineEnds, tail_end, after_minus, literal_place, behind_literal, placed_end, define_end, line_end}
-use Rattle.cl_token.specs.Scanning.{Step, Goes, step, line_step_of, token_between, minus_between, literal_tokens, define_between}
+use Rattle.cl_ast.specs.Pieces.{fillers_spelling, is_tail, DefineLine, minus_spelling, head_spelling, define_spelling, define_tokens, minus_tokens, lexeme_tokens, token_from, are_blanks, is_name, is_minus, is_name_kind, is_literal_kind, is_head, is_define}
+use Rattle.cl_ast.specs.Rows.{front_run, after_run}
+use Rattle.cl_ast.specs.Ends.{LiteralEnd, Ends, literal_end, LineEnds, tail_end, after_minus, literal_place, behind_literal, placed_end, line_end}
+use Rattle.cl_token.specs.Scanning.{Goes, line_step_of, token_between, minus_between, literal_tokens, define_between}
 use Rattle.cl_token.proofs.Runs.{front_whole, after_whole}
-use Rattle.cl_token.proofs.CompleteBytes.{step_at, token_is, letter_no_blank, blank_no_name}
-use Rattle.cl_token.proofs.CompleteLexemes.{is_literal, literal_again, NoOther, literal_begins}
+use Rattle.cl_token.proofs.CompleteBytes.{true_is_false, step_at, token_is, letter_no_blank, blank_no_name}
+use Rattle.cl_token.proofs.CompleteLexemes.{is_literal, literal_again, literal_begins}
 use Rattle.cl_token.proofs.CompleteTails.{in_line, tail_again, IsWord, line_is_word, tokens_by_word, at_hash}
 
 abbrev found : List ℕ → Option (List ℕ)
 found x = Some x
-
-true_is_false : {A : Type 0} → ◌≡◌ {A = Bool} true false → A
-true_is_false e = absurd cc
 
 -- ---- the literal
 
@@ -60,15 +57,11 @@ ends_at_line (Hexadecimal x digits suffix) e = refl
 ends_at_line (Quoted character) e = refl
 ends_at_line (Text characters) e = refl
 
-not_false : (b : Bool) → not b ≡ false → b ≡ true
-not_false true e = refl
-not_false false e = sym e
-
 -- a literal ends where its tail or its line does
 literal_stops : (lexeme : Lexeme) (tail rest : List ℕ) → is_literal lexeme ≡ true → begins_with (lexeme_goes_on lexeme) tail ≡ false → begins_with in_line rest ≡ false → begins_with (lexeme_goes_on lexeme) (tail ++ rest) ≡ false
 literal_stops lexeme (byte ∷ tail) rest l f ends = f
 literal_stops lexeme [] [] l f ends = refl
-literal_stops lexeme [] (byte ∷ rest) l f ends = ap (lexeme_goes_on lexeme) (eqb-true byte 10 (not_false (is_line_end byte) ends)) ∙ ends_at_line lexeme l
+literal_stops lexeme [] (byte ∷ rest) l f ends = ap (lexeme_goes_on lexeme) (eqb-true byte 10 (not-false (is_line_end byte) ends)) ∙ ends_at_line lexeme l
 
 -- ---- the bytes of a line from each of its places on
 
@@ -160,18 +153,20 @@ known line rest form ends =
     let g = and_parts (are_blanks line.between) (is_minus line.minus) f.1 in
     let k = kind_of (lexeme_kind line.literal) b.0 in
     let l = literal_kind line.literal b.0 in
-    let stops = literal_stops line.literal (fillers_spelling line.tail) rest l (not-true _ c.0) ends in
-    (k.0, record {
-      spaces = d.0;
-      before = e.0;
-      name = f.0;
-      between = g.0;
-      minus = g.1;
-      kind_is = k.1;
-      literal = ap is_literal_kind (sym k.1) ∙ b.0;
-      ends = literal_again line.literal k.0 (fillers_spelling line.tail ++ rest) l k.1 stops;
-      tail = tail_again line.tail rest c.1 ends;
-    })
+    let stops = literal_stops line.literal (fillers_spelling line.tail) rest l (not-true _ c.0) ends in (
+      k.0,
+      record {
+        spaces = d.0;
+        before = e.0;
+        name = f.0;
+        between = g.0;
+        minus = g.1;
+        kind_is = k.1;
+        literal = ap is_literal_kind (sym k.1) ∙ b.0;
+        ends = literal_again line.literal k.0 (fillers_spelling line.tail ++ rest) l k.1 stops;
+        tail = tail_again line.tail rest c.1 ends;
+      },
+    )
 
 module _ (line : DefineLine) (rest : List ℕ) (kind : PlainKind) (k : Known line rest kind) where
   place_known : IsPlace (place_of line rest)

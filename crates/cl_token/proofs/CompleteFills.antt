@@ -1,15 +1,13 @@
 -- What separates tokens is what a step reads.
-use Rattle.std.proofs.Common.{◌≡◌, ℕ, ◌+◌, ◌-◌, ◌<◌, ◌≤◌, Bool, true, false, cond, eqb, leb, not, ◌&&◌, ◌||◌, List, [], ◌∷◌, ◌++◌, length, Option, Some, None, refl, sym, ap, subst, ◌∙◌, inl, inr, ◌⊎◌, arith, append_assoc}
-use Rattle.std.proofs.lemmas.Bool.{cases_Bool, and_parts, and_from, or_cases, or_from, or_parts, or_left, or_right, eqb-true, ne_eqb, leb-true, le-leb, not-true}
-use Rattle.std.proofs.lemmas.List.{append-nil}
-use Rattle.std.specs.List.{list_all}
+use Rattle.std.proofs.Common.{◌≡◌, ℕ, Bool, true, false, eqb, not, ◌&&◌, List, [], ◌∷◌, ◌++◌, Some, refl, sym, ap, ◌∙◌, inl, inr, append_assoc}
+use Rattle.std.proofs.lemmas.Bool.{cases_Bool, or_parts, not-true}
 use Rattle.cl_ast.specs.Plain.{PlainToken}
-use Rattle.cl_ast.specs.Bytes.{is_line_end, is_space, is_separator, begins_with}
-use Rattle.cl_ast.specs.Rows.{after_close, after_run, behind_first}
+use Rattle.cl_ast.specs.Bytes.{is_line_end, begins_with}
+use Rattle.cl_ast.specs.Rows.{after_close, after_run}
 use Rattle.cl_ast.specs.Pieces.{Filler, Separator, Block, Line, Fills, filler_spelling, is_filler, filler_goes_on, closes, fresh_behind}
-use Rattle.cl_token.specs.Scanning.{Step, Goes, Stops, step, block_step}
+use Rattle.cl_token.specs.Scanning.{Goes, step, block_step}
 use Rattle.cl_token.proofs.Runs.{after_whole}
-use Rattle.cl_token.proofs.CompleteBytes.{step_at, at_separator, at_other}
+use Rattle.cl_token.proofs.CompleteBytes.{step_at, at_separator}
 
 -- a `*/` at the front of a text with `*/` behind it
 begins_same : (text rest : List ℕ) → begins_with (λ b. eqb b 47) text ≡ false → begins_with (λ b. eqb b 47) (text ++ 42 ∷ 47 ∷ rest) ≡ false

@@ -1,26 +1,21 @@
 -- A token that stands at the front is what a step reads.
-use Rattle.std.proofs.Common.{◌≡◌, ℕ, ◌-◌, ◌≤◌, Bool, true, false, cond, eqb, not, ◌&&◌, ◌||◌, List, [], ◌∷◌, ◌++◌, length, map, Option, Some, None, refl, sym, ap, subst, ◌∙◌, inl, inr, ◌⊎◌, arith}
-use Rattle.std.proofs.lemmas.Bool.{cases_Bool, and_parts, and_from, or_left, or_right, eqb-true, ne_eqb, not-true, cond-true, cond-false}
+use Rattle.std.proofs.Common.{◌≡◌, ℕ, ◌-◌, ◌≤◌, Bool, true, false, cond, eqb, List, [], ◌∷◌, ◌++◌, length, map, Option, Some, None, refl, sym, ap, ◌∙◌, inl, inr, ◌⊎◌, arith}
+use Rattle.std.proofs.lemmas.Bool.{cases_Bool, and_parts, and_from, or_left, eqb-true, ne_eqb, cond-false}
 use Rattle.std.proofs.lemmas.List.{length-append}
 use Rattle.std.specs.Prelude.{is_some, option_map}
 use Rattle.std.specs.List.{list_all}
 use Rattle.cl_ast.specs.declared.mark.Mark.{Mark}
-use Rattle.cl_ast.specs.declared.word.Word.{Word}
-use Rattle.cl_ast.specs.declared.fault.LexKind.{LexKind}
 use Rattle.cl_ast.specs.Plain.{PlainKind, Character, Str, Punctuator, PlainToken}
 use Rattle.cl_ast.specs.Bytes.{is_separator, is_blank, is_digit, is_letter, is_name_byte, is_x, begins_with}
-use Rattle.cl_ast.specs.Lexemes.{Lexeme, Letters, Decimal, Hexadecimal, Quoted, Text, Sign, lexeme_spelling, lexeme_kind, lexeme_goes_on, mark_of, word_or, word_of, is_reserved, letters_kind, is_letters, is_decimal, is_hexadecimal, is_a_suffix, fits_long, value_on, number_kind, is_character, is_string_character, character_meaning}
-use Rattle.cl_ast.specs.Pieces.{lexeme_tokens, token_from, is_literal_kind, piece_tokens, Lexed}
+use Rattle.cl_ast.specs.Lexemes.{Lexeme, Letters, Decimal, Hexadecimal, Quoted, Text, Sign, lexeme_spelling, lexeme_kind, lexeme_goes_on, mark_of, letters_kind, is_letters, is_decimal, is_hexadecimal, is_a_suffix, value_on, number_kind, is_character, is_string_character, character_meaning}
+use Rattle.cl_ast.specs.Pieces.{lexeme_tokens, token_from, piece_tokens, Lexed}
 use Rattle.cl_ast.specs.Rows.{front_run, after_run}
-use Rattle.cl_ast.specs.Ends.{LiteralEnd, NoLiteral, Ends, literal_end}
-use Rattle.cl_token.specs.Scanning.{Step, Goes, step, token_between, word_step, literal_step}
+use Rattle.cl_ast.specs.Ends.{NoLiteral, Ends, literal_end}
+use Rattle.cl_token.specs.Scanning.{Goes, token_between, literal_step}
 use Rattle.cl_token.proofs.Runs.{front_whole, after_whole}
-use Rattle.cl_token.proofs.CompleteBytes.{step_at, at_other, at_letter, digit_no_separator, digit_no_letter, digit_no_blank, digit_bound, token_is}
+use Rattle.cl_token.proofs.CompleteBytes.{true_is_false, step_at, at_other, at_letter, digit_no_separator, digit_no_letter, digit_no_blank, digit_bound, token_is}
 use Rattle.cl_token.proofs.CompleteLiterals.{decimal_again, hexadecimal_again, quoted_again, text_again}
 use Rattle.cl_token.proofs.CompleteMarks.{sign_again}
-
-true_is_false : {A : Type 0} → ◌≡◌ {A = Bool} true false → A
-true_is_false e = absurd cc
 
 none_is_some : {A : Type 0} (kind : PlainKind) → ◌≡◌ {A = Option PlainKind} None (Some kind) → A
 none_is_some kind e = absurd cc

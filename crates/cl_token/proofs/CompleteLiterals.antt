@@ -1,22 +1,18 @@
 -- A number and a literal end where their spelling does.
-use Rattle.std.proofs.Common.{◌≡◌, ℕ, ◌+◌, ◌-◌, ◌<◌, ◌≤◌, Bool, true, false, cond, eqb, leb, not, ◌&&◌, ◌||◌, List, [], ◌∷◌, ◌++◌, length, map, take, Option, Some, None, refl, sym, ap, subst, ◌∙◌, inl, inr, ◌⊎◌, arith, append_assoc}
-use Rattle.std.proofs.lemmas.Bool.{cases_Bool, and_parts, and_from, or_cases, or_from, or_parts, or_left, or_right, eqb-true, eqb-false, ne_eqb, leb-true, le-leb, not-true, cond-true, cond-false}
-use Rattle.std.proofs.lemmas.List.{append-nil}
+use Rattle.std.proofs.Common.{◌≡◌, ℕ, Bool, true, false, cond, eqb, not, List, [], ◌∷◌, ◌++◌, map, Some, None, refl, sym, ap, subst, ◌∙◌, inl, inr, append_assoc}
+use Rattle.std.proofs.lemmas.Bool.{cases_Bool, and_parts, and_from, eqb-true, cond-true, cond-false}
 use Rattle.std.specs.Prelude.{◌==◌, if◌then◌else◌}
 use Rattle.std.specs.List.{list_all}
 use Rattle.cl_ast.specs.declared.fault.LexKind.TheVariants as faults
-use Rattle.cl_ast.specs.Plain.{PlainKind, Character, Str}
+use Rattle.cl_ast.specs.Plain.{Character, Str}
 use Rattle.cl_ast.specs.Bytes.{is_digit, is_hexadecimal_digit, is_name_byte, is_x, is_suffix, is_string_byte, is_escape, is_character_byte, is_character_escape, begins_with}
 use Rattle.cl_ast.specs.Lexemes.{Spelled, Itself, Escape, character_spelling, characters_spelling, character_meaning, value_on, fits_long, number_kind, is_decimal, is_hexadecimal, is_a_suffix, is_string_character, is_character}
-use Rattle.cl_ast.specs.Rows.{front_run, after_run, behind_first, string_row, after_string_row, character_at, after_prefix, decimal_row, after_decimal_row, suffix_row, after_suffix}
-use Rattle.cl_ast.specs.Ends.{LiteralEnd, NoLiteral, Ends, Fails, is_cut, bad_of, behind_digits, hexadecimal_end, decimal_end, based_end, number_end, string_end, character_end, character_end_behind, literal_end}
+use Rattle.cl_ast.specs.Rows.{front_run, after_run, behind_first, string_row, after_string_row, character_at, after_prefix, decimal_row, after_decimal_row}
+use Rattle.cl_ast.specs.Ends.{LiteralEnd, Ends, Fails, is_cut, bad_of, behind_digits, based_end, number_end, character_end_behind, literal_end}
 use Rattle.cl_token.proofs.Runs.{front_whole, after_whole}
-use Rattle.cl_token.proofs.CompleteBytes.{fails_by, begins_by, suffix_name, suffix_no_digit, suffix_no_hexadecimal, suffix_no_x, x_name, digit_name, hexadecimal_name}
+use Rattle.cl_token.proofs.CompleteBytes.{true_is_false, begins_by, suffix_name, suffix_no_digit, suffix_no_hexadecimal, suffix_no_x, x_name, digit_name, hexadecimal_name}
 
 -- ---- numbers
-
-true_is_false : {A : Type 0} → ◌≡◌ {A = Bool} true false → A
-true_is_false e = absurd cc
 
 behind_again : (bytes : List ℕ) (value : ℕ) (suffix rest : List ℕ) → fits_long value ≡ true → is_a_suffix suffix ≡ true → begins_with is_name_byte rest ≡ false → behind_digits bytes value (suffix ++ rest) ≡ Ends (number_kind value suffix) rest
 behind_again bytes value [] rest fits form ends =

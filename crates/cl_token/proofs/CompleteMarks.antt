@@ -1,6 +1,6 @@
 -- A mark that stands at the front is what a step reads.
-use Rattle.std.proofs.Common.{◌≡◌, ℕ, Bool, true, false, cond, eqb, not, ◌&&◌, ◌||◌, List, [], ◌∷◌, ◌++◌, map, Option, Some, None, refl, sym, ap, subst, ◌∙◌, inl, inr}
-use Rattle.std.proofs.lemmas.Bool.{cases_Bool, and_parts, and_right, or_parts, or_left, not-true, cond-true, cond-false}
+use Rattle.std.proofs.Common.{◌≡◌, ℕ, Bool, true, false, eqb, not, ◌&&◌, ◌||◌, List, [], ◌∷◌, ◌++◌, map, Option, Some, None, refl, sym, ap, ◌∙◌, inl, inr}
+use Rattle.std.proofs.lemmas.Bool.{cases_Bool, and_parts, and_right, or_parts, not-true, cond-true, cond-false}
 use Rattle.std.specs.Prelude.{is_some}
 use Rattle.std.specs.List.{list_all}
 use Rattle.cl_ast.specs.declared.mark.Mark.{Mark}
@@ -9,12 +9,9 @@ use Rattle.cl_ast.specs.Plain.{Punctuator, PlainToken}
 use Rattle.cl_ast.specs.Bytes.{is_separator, is_digit, is_letter, begins_with}
 use Rattle.cl_ast.specs.Lexemes.{same_bytes, look_up, mark_of, opens_comment, lexeme_goes_on, Sign}
 use Rattle.cl_ast.specs.Ends.{NoLiteral, literal_end}
-use Rattle.cl_token.specs.Scanning.{Step, Goes, step, token_between, mark_at, one_mark, two_marks, mark_step, mark_step_of, slash_step, other_step, literal_step}
+use Rattle.cl_token.specs.Scanning.{Goes, step, token_between, mark_at, one_mark, two_marks, mark_step, mark_step_of, slash_step, literal_step}
 use Rattle.cl_token.proofs.Runs.{same_is}
-use Rattle.cl_token.proofs.CompleteBytes.{step_at, at_other}
-
-true_is_false : {A : Type 0} → ◌≡◌ {A = Bool} true false → A
-true_is_false e = absurd cc
+use Rattle.cl_token.proofs.CompleteBytes.{true_is_false, step_at, at_other}
 
 none_is_some : {A : Type 0} (mark : Mark) → ◌≡◌ {A = Option Mark} None (Some mark) → A
 none_is_some mark e = absurd cc

@@ -1,36 +1,29 @@
 -- The tail of a line that defines ends where its spelling does, and a line with `#` is read by its word.
-use Rattle.std.proofs.Common.{◌≡◌, ℕ, ◌+◌, ◌-◌, ◌≤◌, Bool, true, false, cond, eqb, not, ◌&&◌, ◌||◌, List, [], ◌∷◌, ◌++◌, length, Option, Some, None, refl, sym, ap, subst, ◌∙◌, inl, inr, ◌⊎◌, arith, append_assoc}
-use Rattle.std.proofs.lemmas.Bool.{cases_Bool, and_parts, and_from, not-true, not_from_false, eqb-true, ne_eqb, cond-true, cond-false}
+use Rattle.std.proofs.Common.{◌≡◌, ℕ, Bool, true, false, cond, not, List, [], ◌∷◌, ◌++◌, Some, refl, sym, ap, subst, ◌∙◌, arith, append_assoc}
+use Rattle.std.proofs.lemmas.Bool.{not-false, and_parts, not-true, not_from_false, eqb-true}
 use Rattle.std.proofs.lemmas.List.{append-nil}
 use Rattle.std.specs.Prelude.{codes}
 use Rattle.std.specs.List.{list_all}
 use Rattle.cl_ast.specs.Plain.{PlainToken}
 use Rattle.cl_ast.specs.Bytes.{is_line_end, is_space, is_blank, is_name_byte, begins_with}
 use Rattle.cl_ast.specs.Lexemes.{same_bytes}
-use Rattle.cl_ast.specs.Pieces.{Filler, Separator, Block, Line, filler_spelling, fillers_spelling, filler_goes_on, is_filler, is_blank_filler, is_tail, closes, IncludeLine, include_spelling, is_include}
-use Rattle.cl_ast.specs.Rows.{front_run, after_run, behind_first, after_close}
-use Rattle.cl_ast.specs.Ends.{LineEnd, LineEnds, tail_end, word_end, line_end}
-use Rattle.cl_token.specs.Scanning.{Step, Goes, step, line_step, line_step_of, line_tokens, define_between}
+use Rattle.cl_ast.specs.Pieces.{Filler, Separator, Block, Line, fillers_spelling, filler_goes_on, is_tail, closes, IncludeLine, include_spelling, is_include}
+use Rattle.cl_ast.specs.Rows.{front_run, after_run, after_close}
+use Rattle.cl_ast.specs.Ends.{LineEnds, tail_end, word_end, line_end}
+use Rattle.cl_token.specs.Scanning.{Goes, step, line_step, line_step_of, line_tokens, define_between}
 use Rattle.cl_token.proofs.Runs.{front_whole, after_whole}
 use Rattle.cl_token.proofs.Comments.{block_ends, line_is, blank_is, end_is, nothing, blank_in_line}
-use Rattle.cl_token.proofs.CompleteBytes.{step_at, begins_by, name_in_line}
+use Rattle.cl_token.proofs.CompleteBytes.{true_is_false, step_at, begins_by, name_in_line}
 use Rattle.cl_token.proofs.CompleteFills.{closes_at}
-
-true_is_false : {A : Type 0} → ◌≡◌ {A = Bool} true false → A
-true_is_false e = absurd cc
 
 -- whether a byte stands in a line
 abbrev pub in_line : ℕ → Bool
 in_line byte = not (is_line_end byte)
 
-not_false : (b : Bool) → not b ≡ false → b ≡ true
-not_false true e = refl
-not_false false e = sym e
-
 end_again : (rest : List ℕ) → begins_with in_line rest ≡ false → tail_end rest ≡ LineEnds rest
 end_again [] ends = nothing [] (omega arith)
 end_again (byte ∷ bytes) ends =
-    let ten : byte ≡ 10 = eqb-true byte 10 (not_false (is_line_end byte) ends) in
+    let ten : byte ≡ 10 = eqb-true byte 10 (not-false (is_line_end byte) ends) in
     subst (λ (b : ℕ). tail_end (b ∷ bytes) ≡ LineEnds (b ∷ bytes)) (sym ten) (end_is bytes)
 
 -- a tail that doesn't go on in its line is empty
