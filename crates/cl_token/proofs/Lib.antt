@@ -4,6 +4,13 @@ pub mod Characters
 pub mod Closing
 pub mod Comments
 pub mod Complete
+pub mod CompleteBytes
+pub mod CompleteDefines
+pub mod CompleteFills
+pub mod CompleteLexemes
+pub mod CompleteLiterals
+pub mod CompleteMarks
+pub mod CompleteTails
 pub mod Failing
 pub mod Laws
 pub mod LiteralSound
