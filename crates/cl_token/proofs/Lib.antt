@@ -13,6 +13,7 @@ pub mod CompleteMarks
 pub mod CompleteTails
 pub mod Failing
 pub mod Laws
+pub mod LineSound
 pub mod LiteralSound
 pub mod Literals
 pub mod MarkSound
@@ -21,5 +22,6 @@ pub mod Pieces
 pub mod Runs
 pub mod Scanned
 pub mod Sound
+pub mod TailSound
 pub mod Values
 pub mod Walk
