@@ -6,8 +6,7 @@ use Rattle.cl_ast.specs.Plain.{PlainToken}
 use Rattle.cl_ast.specs.Bytes.{begins_with}
 use Rattle.cl_ast.specs.Pieces.{Piece, Fills, Lexed, Includes, Defines, is_include, is_define, piece_spelling, is_piece, piece_goes_on, fresh_behind, piece_tokens, include_spelling, define_spelling}
 use Rattle.cl_ast.specs.Splits.{IsFirst}
-use Rattle.cl_token.specs.Scanning.{Goes, step}
-use Rattle.cl_token.proofs.CompleteBytes.{step_at}
+use Rattle.cl_token.specs.Scanning.{Goes, step, step_at}
 use Rattle.cl_token.proofs.CompleteFills.{filled}
 use Rattle.cl_token.proofs.CompleteLexemes.{lexed}
 use Rattle.cl_token.proofs.CompleteTails.{included}

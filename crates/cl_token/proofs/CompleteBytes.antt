@@ -6,7 +6,7 @@ use Rattle.cl_ast.specs.Plain.{PlainKind, PlainToken}
 use Rattle.cl_ast.specs.Bytes.{is_between, is_line_end, is_space, is_blank, is_separator, is_digit, is_hexadecimal_digit, is_letter, is_name_byte, is_x, is_suffix, begins_with}
 use Rattle.cl_ast.specs.Pieces.{token_from}
 use Rattle.cl_ast.specs.Ends.{literal_end}
-use Rattle.cl_token.specs.Scanning.{Step, Goes, Stops, step, token_between, word_step, literal_step}
+use Rattle.cl_token.specs.Scanning.{Step, Goes, Stops, step, token_between, word_step, literal_step, step_at}
 
 -- no test both passes and fails
 pub true_is_false : {A : Type 0} → ◌≡◌ {A = Bool} true false → A
@@ -150,11 +150,6 @@ token_is total start kind bytes spelled rest within place long =
     let end : total - length rest ≡ start + length spelled = omega arith in
     let made : (a b : ℕ) → PlainToken = λ a b. record { kind = kind; start = a; end = b } in
     ap (λ (n : ℕ). made (total - length bytes) n) end ∙ ap (λ (n : ℕ). made n (start + length spelled)) (sym place)
-
--- the step at a list of bytes
-abbrev pub step_at : ℕ → List PlainToken → Bool → List ℕ → Step
-step_at total tokens fresh [] = Stops faults.BadByte []
-step_at total tokens fresh (byte ∷ bytes) = step total tokens fresh byte bytes
 
 pub at_separator : (total : ℕ) (tokens : List PlainToken) (fresh : Bool) (byte : ℕ) (bytes : List ℕ) → is_separator byte ≡ true → step total tokens fresh byte bytes ≡ Goes tokens (is_line_end byte || (fresh && is_space byte)) bytes
 unfolding step

@@ -13,9 +13,9 @@ use Rattle.cl_ast.specs.Lexemes.{Lexeme, Letters, Decimal, Hexadecimal, Quoted, 
 use Rattle.cl_ast.specs.Pieces.{fillers_spelling, is_tail, DefineLine, minus_spelling, head_spelling, define_spelling, define_tokens, minus_tokens, lexeme_tokens, token_from, are_blanks, is_name, is_minus, is_name_kind, is_literal_kind, is_head, is_define}
 use Rattle.cl_ast.specs.Rows.{front_run, after_run}
 use Rattle.cl_ast.specs.Ends.{LiteralEnd, Ends, literal_end, LineEnds, tail_end, after_minus, literal_place, behind_literal, placed_end, line_end}
-use Rattle.cl_token.specs.Scanning.{Goes, line_step_of, token_between, minus_between, literal_tokens, define_between}
+use Rattle.cl_token.specs.Scanning.{Goes, line_step_of, token_between, minus_between, literal_tokens, define_between, step_at}
 use Rattle.cl_token.proofs.Runs.{front_whole, after_whole}
-use Rattle.cl_token.proofs.CompleteBytes.{true_is_false, step_at, token_is, letter_no_blank, blank_no_name}
+use Rattle.cl_token.proofs.CompleteBytes.{true_is_false, token_is, letter_no_blank, blank_no_name}
 use Rattle.cl_token.proofs.CompleteLexemes.{is_literal, literal_again, literal_begins}
 use Rattle.cl_token.proofs.CompleteTails.{in_line, tail_again, IsWord, line_is_word, tokens_by_word, at_hash}
 

@@ -5,9 +5,9 @@ use Rattle.cl_ast.specs.Plain.{PlainToken}
 use Rattle.cl_ast.specs.Bytes.{is_line_end, begins_with}
 use Rattle.cl_ast.specs.Rows.{after_close, after_run}
 use Rattle.cl_ast.specs.Pieces.{Filler, Separator, Block, Line, Fills, filler_spelling, is_filler, filler_goes_on, closes, fresh_behind}
-use Rattle.cl_token.specs.Scanning.{Goes, step, block_step}
+use Rattle.cl_token.specs.Scanning.{Goes, step, block_step, step_at}
 use Rattle.cl_token.proofs.Runs.{after_whole}
-use Rattle.cl_token.proofs.CompleteBytes.{step_at, at_separator}
+use Rattle.cl_token.proofs.CompleteBytes.{at_separator}
 
 -- a `*/` at the front of a text with `*/` behind it
 begins_same : (text rest : List ℕ) → begins_with (λ b. eqb b 47) text ≡ false → begins_with (λ b. eqb b 47) (text ++ 42 ∷ 47 ∷ rest) ≡ false

@@ -11,9 +11,9 @@ use Rattle.cl_ast.specs.Lexemes.{Lexeme, Letters, Decimal, Hexadecimal, Quoted, 
 use Rattle.cl_ast.specs.Pieces.{lexeme_tokens, token_from, piece_tokens, Lexed}
 use Rattle.cl_ast.specs.Rows.{front_run, after_run}
 use Rattle.cl_ast.specs.Ends.{NoLiteral, Ends, literal_end}
-use Rattle.cl_token.specs.Scanning.{Goes, token_between, literal_step}
+use Rattle.cl_token.specs.Scanning.{Goes, token_between, literal_step, step_at}
 use Rattle.cl_token.proofs.Runs.{front_whole, after_whole}
-use Rattle.cl_token.proofs.CompleteBytes.{true_is_false, step_at, at_other, at_letter, digit_no_separator, digit_no_letter, digit_no_blank, digit_bound, token_is}
+use Rattle.cl_token.proofs.CompleteBytes.{true_is_false, at_other, at_letter, digit_no_separator, digit_no_letter, digit_no_blank, digit_bound, token_is}
 use Rattle.cl_token.proofs.CompleteLiterals.{decimal_again, hexadecimal_again, quoted_again, text_again}
 use Rattle.cl_token.proofs.CompleteMarks.{sign_again}
 

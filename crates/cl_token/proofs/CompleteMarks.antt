@@ -9,9 +9,9 @@ use Rattle.cl_ast.specs.Plain.{Punctuator, PlainToken}
 use Rattle.cl_ast.specs.Bytes.{is_separator, is_digit, is_letter, begins_with}
 use Rattle.cl_ast.specs.Lexemes.{same_bytes, look_up, mark_of, opens_comment, lexeme_goes_on, Sign}
 use Rattle.cl_ast.specs.Ends.{NoLiteral, literal_end}
-use Rattle.cl_token.specs.Scanning.{Goes, step, token_between, mark_at, one_mark, two_marks, mark_step, mark_step_of, slash_step, literal_step}
+use Rattle.cl_token.specs.Scanning.{Goes, step, token_between, mark_at, one_mark, two_marks, mark_step, mark_step_of, slash_step, literal_step, step_at}
 use Rattle.cl_token.proofs.Runs.{same_is}
-use Rattle.cl_token.proofs.CompleteBytes.{true_is_false, step_at, at_other}
+use Rattle.cl_token.proofs.CompleteBytes.{true_is_false, at_other}
 
 none_is_some : {A : Type 0} (mark : Mark) → ◌≡◌ {A = Option Mark} None (Some mark) → A
 none_is_some mark e = absurd cc

@@ -10,10 +10,10 @@ use Rattle.cl_ast.specs.Lexemes.{same_bytes}
 use Rattle.cl_ast.specs.Pieces.{Filler, Separator, Block, Line, fillers_spelling, filler_goes_on, is_tail, closes, IncludeLine, include_spelling, is_include}
 use Rattle.cl_ast.specs.Rows.{front_run, after_run, after_close}
 use Rattle.cl_ast.specs.Ends.{LineEnds, tail_end, word_end, line_end}
-use Rattle.cl_token.specs.Scanning.{Goes, step, line_step, line_step_of, line_tokens, define_between}
+use Rattle.cl_token.specs.Scanning.{Goes, step, line_step, line_step_of, line_tokens, define_between, step_at}
 use Rattle.cl_token.proofs.Runs.{front_whole, after_whole}
 use Rattle.cl_token.proofs.Comments.{block_ends, line_is, blank_is, end_is, nothing, blank_in_line}
-use Rattle.cl_token.proofs.CompleteBytes.{true_is_false, step_at, begins_by, name_in_line}
+use Rattle.cl_token.proofs.CompleteBytes.{true_is_false, begins_by, name_in_line}
 use Rattle.cl_token.proofs.CompleteFills.{closes_at}
 
 -- whether a byte stands in a line

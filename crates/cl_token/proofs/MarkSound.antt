@@ -42,7 +42,6 @@ no_third : (a b c : ℕ) → is_some (mark_of (a ∷ b ∷ c ∷ [])) ≡ false
 unfolding mark_of
 no_third a b c = third_of (mark_of (a ∷ b ∷ c ∷ [])) a b c refl
 
-
 -- whether a comment begins here
 abbrev pub starts_comment : List ℕ → Bool
 starts_comment (byte ∷ next ∷ bytes) = eqb byte 47 && (eqb next 47 || eqb next 42)

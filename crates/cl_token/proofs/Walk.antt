@@ -1,19 +1,25 @@
 -- Parts one after another: where they lead, their tokens, and that there is one way.
 use Rattle.std.proofs.Common.{◌≡◌, ℕ, ◌+◌, ◌-◌, ◌<◌, ◌≤◌, Bool, true, false, List, [], ◌∷◌, ◌++◌, length, refl, sym, ap, subst, ◌∙◌, append_assoc, arith, length-append, add-zero}
+use Rattle.std.specs.Prelude.{Err}
 use Rattle.std.proofs.lemmas.List.{append-nil}
 use Rattle.cl_ast.specs.declared.fault.LexKind.{LexKind}
 use Rattle.cl_ast.specs.Plain.{PlainToken}
 use Rattle.cl_ast.specs.Pieces.{Piece, piece_spelling, piece_tokens, fresh_behind}
 use Rattle.cl_ast.specs.Splits.{IsFirst, Leads, tokens_of, Splits}
 use Rattle.cl_ast.specs.Faults.{FailsHere, IsFaultAt}
-use Rattle.cl_token.specs.Lexing.{SameFault, OneFault, IsFirstFault}
-use Rattle.cl_token.specs.Scanning.{Step, Goes, Stops, step}
+use Rattle.cl_token.specs.Lexing.{SameFault, OneFault, IsFirstFault, TellsEnd, TellsFault, IsOnly}
+use Rattle.cl_token.specs.Steps.{StopsSo}
+use Rattle.cl_token.specs.declared.stop.Stop.{Stop}
+use Rattle.cl_token.specs.declared.stop.Stop.TheVariants as stops
+use Rattle.cl_token.specs.declared.lexer.LexEnd.{LexEnd}
+use Rattle.cl_token.specs.declared.lexer.LexEnd.TheVariants as ends
+use Rattle.cl_token.specs.Scanning.{Step, Goes, Stops, step, step_at}
 use Rattle.cl_token.proofs.Laws.{Found}
 use Rattle.cl_token.proofs.Sound.{sound}
 use Rattle.cl_token.proofs.Complete.{complete}
 use Rattle.cl_token.proofs.Failing.{fails_sound, fails_complete, nothing_fails}
-use Rattle.cl_token.proofs.Pieces.{never_empty}
-use Rattle.cl_token.proofs.Scanned.{scanned}
+use Rattle.cl_token.proofs.Pieces.{never_empty, few_tokens}
+use Rattle.cl_token.proofs.Scanned.{scanned, fails_within}
 
 -- ---- the parts so far
 
@@ -67,9 +73,9 @@ reaches_on source fresh byte bytes tokens tokens' fresh' rest r e =
     let l = far source r.pieces true fresh (byte ∷ bytes) r.leads in
     reaches_found source fresh (byte ∷ bytes) tokens tokens' fresh' rest r (sound (length source) tokens fresh byte bytes tokens' fresh' rest (omega (arith, l)) e)
 
-pub all_reached : (source : List ℕ) (fresh : Bool) (rest : List ℕ) (tokens : List PlainToken) → length rest < 1 → Reached source fresh rest tokens → Splits source tokens
-all_reached source fresh [] tokens none r = record { pieces = r.pieces; fresh = fresh; leads = r.leads; tokens_are = r.tokens_are }
-all_reached source fresh (byte ∷ bytes) tokens none r = absurd (omega arith)
+-- at the end of the source its tokens are all there
+pub all_reached : (source : List ℕ) (fresh : Bool) (rest : List ℕ) (tokens tokens' : List PlainToken) → Reached source fresh rest tokens → (rest ≡ []) × (tokens' ≡ tokens) → Splits source tokens'
+all_reached source fresh rest tokens tokens' r e = record { pieces = r.pieces; fresh = fresh; leads = subst (λ (x : List ℕ). Leads true source r.pieces fresh x) e.0 r.leads; tokens_are = e.1 ∙ r.tokens_are }
 
 -- ---- steps that are the same
 
@@ -182,6 +188,15 @@ one_fault source place place' kind kind' a b =
     let n : length a.bad ≡ length b.bad = ap length same.1 in
     record { same_place = omega (arith, a.place_is, b.place_is, n); same_kind = same.0 }
 
+-- ---- what the lexer goes by
+
+-- on to the place behind a part
+pub goes_on : (source : List ℕ) (fresh : Bool) (bytes : List ℕ) (tokens tokens' : List PlainToken) (fresh' : Bool) (rest : List ℕ) → Reached source fresh bytes tokens → step_at (length source) tokens fresh bytes ≡ Goes tokens' fresh' rest → Reached source fresh' rest tokens'
+goes_on source fresh [] tokens tokens' fresh' rest r e =
+    let same = goes_same _ _ _ _ _ _ e in
+    subst (λ (f : Bool). Reached source f rest tokens') same.1.0 (subst (λ (b : List ℕ). Reached source fresh b tokens') same.1.1 (subst (λ (ts : List PlainToken). Reached source fresh [] ts) same.0 r))
+goes_on source fresh (byte ∷ bytes) tokens tokens' fresh' rest r e = reaches_on source fresh byte bytes tokens tokens' fresh' rest r e
+
 -- ---- the first fault
 
 pub first_fault : (source : List ℕ) (fresh : Bool) (byte : ℕ) (bytes : List ℕ) (tokens : List PlainToken) (kind : LexKind) (bad : List ℕ) → Reached source fresh (byte ∷ bytes) tokens → step (length source) tokens fresh byte bytes ≡ Stops kind bad → IsFirstFault source (length source - length bad) kind
@@ -195,3 +210,29 @@ first_fault source fresh byte bytes tokens kind bad r e =
       fault = fault;
       none = λ ts splits. no_way splits.pieces r.pieces true splits.fresh fresh source (byte ∷ bytes) bad kind splits.leads r.leads fails;
     }
+
+-- a stop tells the first fault
+pub stop_tells : (source : List ℕ) (fresh : Bool) (bytes : List ℕ) (tokens : List PlainToken) (stop : Stop) (end : LexEnd) → Reached source fresh bytes tokens → StopsSo stop (step_at (length source) tokens fresh bytes) → TellsEnd stop (length source) end → TellsFault (Err end) source
+stop_tells source fresh bytes tokens stops.NoMemory end r so tells = subst (λ (x : LexEnd). TellsFault (Err x) source) (sym tells) tt
+stop_tells source fresh [] tokens (stops.Fault kind bad) end r so tells = absurd (goes_stops _ _ _ kind bad.now so)
+stop_tells source fresh (byte ∷ bytes) tokens (stops.Fault kind bad) end r so tells = subst (λ (x : LexEnd). TellsFault (Err x) source) (sym tells) (first_fault source fresh byte bytes tokens kind bad.now r so)
+
+-- and no tokens split the source then
+pub none_then : (source : List ℕ) (end : LexEnd) (tokens : List PlainToken) → TellsFault (Err end) source → Splits source tokens → IsOnly (Err end) tokens
+none_then source ends.NoMemory tokens tells splits = tt
+none_then source (ends.Fault place kind) tokens tells splits = tells.none tokens splits
+
+-- ---- how many tokens
+
+few_of : (start : ℕ) (ps : List Piece) (fresh fresh' : Bool) (bytes rest : List ℕ) → Leads fresh bytes ps fresh' rest → length (tokens_of start ps) ≤ length (spelling_of ps)
+few_of start [] fresh fresh' bytes rest l = omega arith
+few_of start (p ∷ ps) fresh fresh' bytes rest l =
+    let here = few_tokens fresh start p l.1.form in
+    let more = few_of (start + length (piece_spelling p)) ps (fresh_behind fresh p) fresh' l.0 rest l.2 in
+    simp length-append (omega (arith, here, more))
+
+pub few : (source : List ℕ) (tokens : List PlainToken) → Splits source tokens → length tokens ≤ length source
+few source tokens s =
+    let n = ap length s.tokens_are in
+    let l = far source s.pieces true s.fresh [] s.leads in
+    omega (arith, n, l, few_of 0 s.pieces true s.fresh source [] s.leads)

@@ -1,5 +1,5 @@
 -- What the lexer tells of a source. (This project.)
-use Rattle.std.specs.Prelude.{ℕ, ◌≡◌, List, map, take, Result, Ok, Err}
+use Rattle.std.specs.Prelude.{ℕ, ◌≡◌, ◌-◌, List, length, map, take, Result, Ok, Err}
 use Rattle.cl_ast.specs.Room.{Room}
 use Rattle.cl_ast.specs.declared.token.Token.{Token}
 use Rattle.cl_ast.specs.declared.fault.LexKind.{LexKind}
@@ -7,8 +7,15 @@ use Rattle.cl_ast.specs.Plain.{PlainToken}
 use Rattle.cl_ast.specs.Views.{plain_token}
 use Rattle.cl_ast.specs.Splits.{Splits, Scans}
 use Rattle.cl_ast.specs.Faults.{IsFaultAt}
+use Rattle.cl_token.specs.declared.stop.Stop.{Stop}
+use Rattle.cl_token.specs.declared.stop.Stop.TheVariants as stops
 use Rattle.cl_token.specs.declared.lexer.LexEnd.{LexEnd}
 use Rattle.cl_token.specs.declared.lexer.LexEnd.TheVariants as ends
+
+-- a stop in a source of so many bytes comes to this end
+abbrev pub TellsEnd : Stop → ℕ → LexEnd → Type 0
+TellsEnd (stops.Fault fault bad) total end = end ≡ ends.Fault (total - length bad.now) fault
+TellsEnd stops.NoMemory total end = end ≡ ends.NoMemory
 
 -- these are the tokens, unless memory was wanting
 abbrev pub IsOnly : Result (Room Token) LexEnd → List PlainToken → Type 0

@@ -131,3 +131,8 @@ step total tokens fresh byte bytes =
     if is_separator byte then Goes tokens (is_line_end byte || (fresh && is_space byte)) bytes
     else (if is_letter byte then word_step total tokens (byte ∷ bytes)
     else literal_step total tokens fresh byte bytes (literal_end (byte ∷ bytes)))
+
+-- the part that stands at the front of the bytes, or none at their end
+abbrev pub step_at : ℕ → List PlainToken → Bool → List ℕ → Step
+step_at total tokens fresh [] = Goes tokens fresh []
+step_at total tokens fresh (byte ∷ bytes) = step total tokens fresh byte bytes

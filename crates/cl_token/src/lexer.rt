@@ -14,11 +14,44 @@ pub enum LexEnd {
     NoMemory,
 }
 
-ghost use Rattle.std.specs.Prelude.{◌≡◌, ◌≤◌, ◌<◌, List, map, length, IfOk};
+ghost use Rattle.std.specs.Prelude.{◌≡◌, ◌≤◌, ◌<◌, List, map, length, IfOk, IfSome};
 ghost use Rattle.cl_ast.specs.Plain.{PlainToken};
 ghost use Rattle.cl_ast.specs.Splits.{Splits};
 ghost use Rattle.cl_ast.specs.Views.{plain_token};
-ghost use Rattle.cl_token.specs.Lexing.{TellsFault, IsOnly};
+ghost use Rattle.cl_token.specs.Scanning.{step_at};
+ghost use Rattle.cl_token.specs.Steps.{Advances};
+ghost use Rattle.cl_token.specs.Lexing.{TellsEnd, TellsFault, IsOnly, OneFault};
+
+// The place behind the part that stands here, or none at the end of the source.
+fn advance<'a>(
+    alloc: Global,
+    tokens: &mut Items<Token>,
+    total: usize,
+    place: &Place<'a>,
+) -> Result<Option<Place<'a>>, Stop<'a>>
+    requires { total ≤ 1048576 }
+    ensures step { Advances result (map plain_token tokens.old.items) (map plain_token tokens.new.items) place.now.rest.now (step_at total (map plain_token tokens.old.items) place.now.fresh place.now.rest.now) }
+    ensures within { IfOk result (λ found. IfSome found (λ after. length after.rest.now < length place.now.rest.now)) }
+{
+    match place.rest {
+        [] => Ok(None),
+        [byte, behind @ ..] => Ok(Some(step(alloc, tokens, total, place, *byte, behind)?)),
+    }
+}
+
+// What a stop in a source of so many bytes comes to.
+fn end_of(total: usize, stop: Stop<'_>) -> LexEnd
+    requires { total ≤ 1048576 }
+    ensures { TellsEnd stop.entry total result }
+{
+    match stop {
+        Stop::Fault(kind, bad) => LexEnd::Fault {
+            place: total.saturating_sub(bad.len()) as u32,
+            kind,
+        },
+        Stop::NoMemory => LexEnd::NoMemory,
+    }
+}
 
 /// The tokens of a source, with their places.
 ///
@@ -36,17 +69,16 @@ pub fn lex(alloc: Global, src: &[u8]) -> Result<Items<Token>, LexEnd>
         rest: src,
         fresh: true,
     };
-    while let [byte, behind @ ..] = place.rest {
-        match step(alloc, &mut tokens, src.len(), &place, *byte, behind) {
-            Ok(after) => place = after,
-            Err(Stop::Fault(kind, bad)) => {
-                return Err(LexEnd::Fault {
-                    place: src.len().saturating_sub(bad.len()) as u32,
-                    kind,
-                });
-            }
-            Err(Stop::NoMemory) => return Err(LexEnd::NoMemory),
+    loop {
+        match advance(alloc, &mut tokens, src.len(), &place) {
+            Ok(Some(after)) => place = after,
+            Ok(None) => return Ok(tokens),
+            Err(stop) => return Err(end_of(src.len(), stop)),
         }
     }
-    Ok(tokens)
 }
+
+/// Says of the definitions alone: a source has at most one first fault, one place and one kind.
+pub fn one_fault()
+    ensures { OneFault }
+{}
