@@ -197,3 +197,89 @@ fn faults(rt: HostRuntime) {
         );
     }
 }
+
+// How a source ends that is one byte: with one token, with none, or with a fault at 0 or 1.
+#[derive(Clone, Copy, Debug, PartialEq, Eq)]
+enum Alone {
+    Token,
+    Nothing,
+    Fault(u32, LexKind),
+}
+
+fn kind_alone(byte: u8) -> Alone {
+    match byte {
+        b'\t'..=b'\r' | b' ' => Alone::Nothing,
+        b'"' | b'\'' => Alone::Fault(0, LexKind::OpenString),
+        b'#' => Alone::Fault(0, LexKind::BadDirective),
+        b'0'..=b'9' | b'A'..=b'Z' | b'a'..=b'z' | b'_' => Alone::Token,
+        b'('
+        | b')'
+        | b'['
+        | b']'
+        | b'{'
+        | b'}'
+        | b','
+        | b';'
+        | b'?'
+        | b'='
+        | b'+'
+        | b'-'
+        | b'*'
+        | b'/'
+        | b'%'
+        | b'!'
+        | b'<'
+        | b'>' => Alone::Token,
+        _ => Alone::Fault(0, LexKind::BadByte),
+    }
+}
+
+fn end_of(alloc: Global, source: &[u8]) -> Option<Alone> {
+    if source.len() > 1048576 {
+        return None;
+    }
+    match lex(alloc, source) {
+        Ok(tokens) => Some(if tokens.len() == 0 {
+            Alone::Nothing
+        } else {
+            Alone::Token
+        }),
+        Err(LexEnd::Fault { place, kind }) => Some(Alone::Fault(place, kind)),
+        Err(LexEnd::NoMemory) => None,
+    }
+}
+
+// Each byte alone, in a string, in a character literal and in a comment.
+#[test]
+fn every_byte(rt: HostRuntime) {
+    let alloc = rt.alloc();
+    for byte in 0..=255u8 {
+        assert_eq!(rt; end_of(alloc, &[byte]), Some(kind_alone(byte)), "{byte}");
+        let string = match byte {
+            b'\n' => Alone::Fault(0, LexKind::OpenString),
+            b'"' => Alone::Fault(2, LexKind::OpenString),
+            b'\\' => Alone::Fault(0, LexKind::OpenString),
+            b'\t' | 32..=126 | 128..=255 => Alone::Token,
+            _ => Alone::Fault(1, LexKind::BadByte),
+        };
+        assert_eq!(rt;
+            end_of(alloc, &[b'"', byte, b'"']),
+            Some(string),
+            "{byte} in a string"
+        );
+        let character = match byte {
+            b'\n' => Alone::Fault(0, LexKind::OpenString),
+            b'\'' => Alone::Fault(1, LexKind::BadByte),
+            b'\\' => Alone::Fault(0, LexKind::OpenString),
+            32..=126 => Alone::Token,
+            _ => Alone::Fault(1, LexKind::BadByte),
+        };
+        assert_eq!(rt;
+            end_of(alloc, &[b'\'', byte, b'\'']),
+            Some(character),
+            "{byte} in a character"
+        );
+        let comment = end_of(alloc, &[b'/', b'*', byte, b'*', b'/']);
+        assert_eq!(rt; comment, Some(Alone::Nothing), "{byte} in a comment");
+    }
+}
