@@ -20,6 +20,10 @@ pub mod Names
 pub mod Pieces
 pub mod Runs
 pub mod Scanned
+pub mod ScannedLines
+pub mod ScannedLiterals
+pub mod ScannedSeen
 pub mod Sound
 pub mod Values
 pub mod Walk
+pub mod Ways

@@ -40,7 +40,7 @@ suffix_joins : (bytes : List ℕ) → bytes ≡ suffix_row bytes ++ after_suffix
 suffix_joins [] = refl
 suffix_joins (byte ∷ bytes) = elim (cases_Bool (is_suffix byte)) [ inl t ↦ rw t refl | inr f ↦ rw f refl ]
 
-suffix_good : (bytes : List ℕ) → is_a_suffix (suffix_row bytes) ≡ true
+pub suffix_good : (bytes : List ℕ) → is_a_suffix (suffix_row bytes) ≡ true
 suffix_good [] = refl
 suffix_good (byte ∷ bytes) = elim (cases_Bool (is_suffix byte)) [ inl t ↦ rw t t | inr f ↦ rw f refl ]
 
@@ -70,17 +70,17 @@ ended bytes value behind kind rest e =
 
 
 -- the digits and the suffix of a number
-joined : (digits behind rest : List ℕ) → after_suffix behind ≡ rest → digits ++ behind ≡ (digits ++ suffix_row behind) ++ rest
+pub joined : (digits behind rest : List ℕ) → after_suffix behind ≡ rest → digits ++ behind ≡ (digits ++ suffix_row behind) ++ rest
 joined digits behind rest e = ap (λ (b : List ℕ). digits ++ b) (suffix_joins behind ∙ ap (λ (r : List ℕ). suffix_row behind ++ r) e) ∙ sym (append_assoc digits (suffix_row behind) rest)
 
-decimal_good : (byte : ℕ) (bytes : List ℕ) → is_digit byte ≡ true → is_decimal (decimal_row (byte ∷ bytes)) ≡ true
+pub decimal_good : (byte : ℕ) (bytes : List ℕ) → is_digit byte ≡ true → is_decimal (decimal_row (byte ∷ bytes)) ≡ true
 decimal_good byte bytes d =
     elim (cases_Bool (eqb byte 48)) [
       | inl t ↦ rw t refl
       | inr f ↦ rw f (ap is_decimal (front_passes is_digit byte bytes d) ∙ (cond-false (eqb byte 48) _ _ f ∙ and_from (is_digit byte) (list_all is_digit (front_run is_digit bytes)) d (front_all is_digit bytes)))
     ]
 
-decimal_joins : (bytes : List ℕ) → bytes ≡ decimal_row bytes ++ after_decimal_row bytes
+pub decimal_joins : (bytes : List ℕ) → bytes ≡ decimal_row bytes ++ after_decimal_row bytes
 decimal_joins [] = refl
 decimal_joins (byte ∷ bytes) =
     elim (cases_Bool (eqb byte 48)) [
@@ -101,7 +101,7 @@ decimal_is byte bytes kind rest d e =
       longest = i.longest;
     }
 
-hexadecimal_good : (digits : List ℕ) → begins_with is_hexadecimal_digit digits ≡ true → is_hexadecimal (front_run is_hexadecimal_digit digits) ≡ true
+pub hexadecimal_good : (digits : List ℕ) → begins_with is_hexadecimal_digit digits ≡ true → is_hexadecimal (front_run is_hexadecimal_digit digits) ≡ true
 hexadecimal_good [] b = b
 hexadecimal_good (byte ∷ bytes) b = ap is_hexadecimal (front_passes is_hexadecimal_digit byte bytes b) ∙ and_from (is_hexadecimal_digit byte) _ b (front_all is_hexadecimal_digit bytes)
 
@@ -123,7 +123,7 @@ hexadecimal_is x digits kind rest isx e =
       | inr f ↦ absurd cc
     ]
 
-prefix_is : (bytes digits : List ℕ) → after_prefix bytes ≡ Some digits → (x : ℕ) × (is_x x ≡ true) × (bytes ≡ 48 ∷ x ∷ digits)
+pub prefix_is : (bytes digits : List ℕ) → after_prefix bytes ≡ Some digits → (x : ℕ) × (is_x x ≡ true) × (bytes ≡ 48 ∷ x ∷ digits)
 prefix_is [] digits e = absurd cc
 prefix_is (byte ∷ []) digits e = absurd cc
 prefix_is (byte ∷ x ∷ bytes) digits e =
@@ -144,7 +144,7 @@ based_is byte bytes (Some digits) kind rest d at e =
 
 -- ---- strings and characters
 
-string_joins : (more : List ℕ) → more ≡ characters_spelling (string_row more) ++ after_string_row more
+pub string_joins : (more : List ℕ) → more ≡ characters_spelling (string_row more) ++ after_string_row more
 string_joins [] = refl
 string_joins (byte ∷ []) = elim (cases_Bool (is_string_byte byte)) [ inl t ↦ rw t refl | inr f ↦ rw f refl ]
 string_joins (byte ∷ next ∷ bytes) =
@@ -159,7 +159,7 @@ string_joins (byte ∷ next ∷ bytes) =
           ]
     ]
 
-string_good : (more : List ℕ) → list_all is_string_character (string_row more) ≡ true
+pub string_good : (more : List ℕ) → list_all is_string_character (string_row more) ≡ true
 string_good [] = refl
 string_good (byte ∷ []) = elim (cases_Bool (is_string_byte byte)) [ inl t ↦ rw t (and_from (is_string_byte byte) true t refl) | inr f ↦ rw f refl ]
 string_good (byte ∷ next ∷ bytes) =
@@ -196,9 +196,9 @@ string_is more kind rest e =
     ]
 
 -- the character that stands here
-record IsCharacterAt (more : List ℕ) (c : Spelled) (behind : List ℕ) : Type 0 where
-  good : is_character c ≡ true
-  whole : more ≡ character_spelling c ++ behind
+pub record IsCharacterAt (more : List ℕ) (c : Spelled) (behind : List ℕ) : Type 0 where
+  pub good : is_character c ≡ true
+  pub whole : more ≡ character_spelling c ++ behind
 
 some_pair : (a b : Spelled) (xs ys : List ℕ) → some {A = Spelled × List ℕ} (a, xs) ≡ some {A = Spelled × List ℕ} (b, ys) → (a ≡ b) × (xs ≡ ys)
 some_pair a b xs ys e = let p : ◌≡◌ {A = Spelled × List ℕ} (a, xs) (b, ys) = cc in (ap (λ (x : Spelled × List ℕ). x.0) p, ap (λ (x : Spelled × List ℕ). x.1) p)
@@ -208,7 +208,7 @@ at_same c d more behind behind' e good whole =
     let p = some_pair c d behind behind' e in
     subst (λ (x : Spelled). IsCharacterAt more x behind') p.0 (subst (λ (b : List ℕ). IsCharacterAt more c b) p.1 (record { good = good; whole = whole }))
 
-character_is_at : (more : List ℕ) (c : Spelled) (behind : List ℕ) → character_at more ≡ some {A = Spelled × List ℕ} (c, behind) → IsCharacterAt more c behind
+pub character_is_at : (more : List ℕ) (c : Spelled) (behind : List ℕ) → character_at more ≡ some {A = Spelled × List ℕ} (c, behind) → IsCharacterAt more c behind
 character_is_at [] c behind e = absurd cc
 character_is_at (byte ∷ []) c behind e =
     elim (chosen (is_character_byte byte) _ _ _ e) [
