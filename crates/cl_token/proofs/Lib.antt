@@ -23,6 +23,7 @@ pub mod Scanned
 pub mod ScannedLines
 pub mod ScannedLiterals
 pub mod ScannedSeen
+pub mod ScannedTails
 pub mod Sound
 pub mod Values
 pub mod Walk

@@ -68,7 +68,6 @@ ended bytes value behind kind rest e =
           ]
     ]
 
-
 -- the digits and the suffix of a number
 pub joined : (digits behind rest : List ℕ) → after_suffix behind ≡ rest → digits ++ behind ≡ (digits ++ suffix_row behind) ++ rest
 joined digits behind rest e = ap (λ (b : List ℕ). digits ++ b) (suffix_joins behind ∙ ap (λ (r : List ℕ). suffix_row behind ++ r) e) ∙ sym (append_assoc digits (suffix_row behind) rest)

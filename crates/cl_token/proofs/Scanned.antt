@@ -3,11 +3,10 @@ use Rattle.std.proofs.Common.{◌≡◌, ℕ, ◌+◌, ◌≤◌, Bool, true, Li
 use Rattle.std.proofs.Math.Seq.{take-append_seam}
 use Rattle.cl_ast.specs.declared.fault.LexKind.{LexKind}
 use Rattle.cl_ast.specs.declared.fault.LexKind.TheVariants as faults
-use Rattle.cl_ast.specs.Pieces.{Piece}
 use Rattle.cl_ast.specs.Splits.{Leads, tokens_of, Scans}
-use Rattle.cl_ast.specs.Ends.{LiteralEnd, Fails, literal_end}
+use Rattle.cl_ast.specs.Ends.{Fails, literal_end}
 use Rattle.cl_ast.specs.Faults.{FailsHere, IsFaultAt}
-use Rattle.cl_token.proofs.Ways.{spelling_of, spelled, Agrees, cut, join}
+use Rattle.cl_token.proofs.Ways.{spelling_of, spelled, cut, join}
 use Rattle.cl_token.proofs.ScannedSeen.{Seen, seen_here, seen_few, LiteralSeen}
 use Rattle.cl_token.proofs.ScannedLiterals.{literal_seen}
 use Rattle.cl_token.proofs.ScannedLines.{line_seen}

@@ -1,18 +1,15 @@
 -- The bytes before the fault of a number or a literal.
-use Rattle.std.proofs.Common.{◌≡◌, ℕ, Bool, true, false, cond, eqb, not, ◌&&◌, ◌||◌, List, [], ◌∷◌, ◌++◌, Option, Some, None, refl, sym, ap, subst, ◌∙◌, append_assoc}
+use Rattle.std.proofs.Common.{◌≡◌, ℕ, Bool, true, false, eqb, not, ◌&&◌, List, [], ◌∷◌, ◌++◌, Option, Some, None, refl, sym, ap, subst, ◌∙◌, append_assoc}
 use Rattle.std.specs.Prelude.{is_some}
 use Rattle.std.specs.List.{list_all}
 use Rattle.std.proofs.lemmas.Bool.{eqb-true, and_from, cond-true}
-use Rattle.std.proofs.lemmas.List.{append-nil}
 use Rattle.std.proofs.lemmas.List.Folds.{list_all-append}
-use Rattle.cl_ast.specs.declared.fault.LexKind.{LexKind}
 use Rattle.cl_ast.specs.declared.fault.LexKind.TheVariants as faults
-use Rattle.cl_ast.specs.Plain.{PlainKind}
-use Rattle.cl_ast.specs.Bytes.{is_line_end, is_digit, is_hexadecimal_digit, is_name_byte, is_x, begins_with}
-use Rattle.cl_ast.specs.Lexemes.{Spelled, Itself, Escape, Lexeme, Decimal, Hexadecimal, Quoted, Text, character_spelling, characters_spelling, lexeme_spelling, lexeme_kind, is_decimal, is_hexadecimal, is_a_suffix, value_on, number_kind, fits_long, is_string_character, is_character}
+use Rattle.cl_ast.specs.Bytes.{is_digit, is_hexadecimal_digit, is_name_byte, is_x, begins_with}
+use Rattle.cl_ast.specs.Lexemes.{Spelled, Itself, Escape, Decimal, Hexadecimal, Quoted, Text, character_spelling, characters_spelling, lexeme_kind, is_decimal, is_hexadecimal, is_a_suffix, value_on, number_kind, fits_long, is_string_character, is_character}
 use Rattle.cl_ast.specs.Pieces.{Lexed}
 use Rattle.cl_ast.specs.Rows.{front_run, after_run, string_row, after_string_row, character_at, after_prefix, decimal_row, after_decimal_row, suffix_row, after_suffix}
-use Rattle.cl_ast.specs.Ends.{LiteralEnd, NoLiteral, Ends, Fails, is_cut, is_line_cut, bad_of, behind_digits, hexadecimal_end, decimal_end, based_end, string_end, character_end_behind, literal_end}
+use Rattle.cl_ast.specs.Ends.{LiteralEnd, Fails, is_cut, is_line_cut, bad_of, behind_digits, hexadecimal_end, decimal_end, based_end, string_end, character_end_behind, literal_end}
 use Rattle.cl_token.proofs.Bounds.{true_is_false}
 use Rattle.cl_token.proofs.Runs.{row_joins}
 use Rattle.cl_token.proofs.LiteralSound.{suffix_good, joined, decimal_good, decimal_joins, hexadecimal_good, prefix_is, string_joins, string_good, IsCharacterAt, character_is_at}

@@ -1,7 +1,6 @@
 -- The bytes before a fault, and how they can be completed.
 use Rattle.std.proofs.Common.{◌≡◌, ℕ, ◌+◌, ◌≤◌, Bool, true, false, cond, List, [], ◌∷◌, ◌++◌, length, refl, sym, ap, subst, ◌∙◌, arith, length-append}
 use Rattle.std.proofs.lemmas.List.{append-nil}
-use Rattle.cl_ast.specs.declared.fault.LexKind.{LexKind}
 use Rattle.cl_ast.specs.Pieces.{Piece, piece_spelling, is_piece, fresh_behind}
 use Rattle.cl_ast.specs.Splits.{IsFirst, Leads}
 use Rattle.cl_ast.specs.Ends.{LiteralEnd, Fails}
@@ -29,14 +28,14 @@ one_leads fresh bytes p whole form =
 -- a fault behind a whole part
 pub seen_whole : (fresh : Bool) (bytes bad : List ℕ) (p : Piece) → bytes ≡ piece_spelling p ++ bad → is_piece fresh p ≡ true → Seen fresh bytes bad
 seen_whole fresh bytes bad p whole form = record {
-      seen = piece_spelling p;
-      whole = whole;
-      more = [];
-      pieces = p ∷ [];
-      fresh' = fresh_behind fresh p;
-      leads = one_leads fresh (piece_spelling p ++ []) p (append-nil (piece_spelling p)) form;
-      agrees = subst (λ (x : List ℕ). Agrees x (piece_spelling p ++ [])) (sym whole) (subst (λ (x : List ℕ). Agrees (piece_spelling p ++ bad) x) (sym (append-nil (piece_spelling p))) (agrees_front (piece_spelling p) bad));
-    }
+  seen = piece_spelling p;
+  whole = whole;
+  more = [];
+  pieces = p ∷ [];
+  fresh' = fresh_behind fresh p;
+  leads = one_leads fresh (piece_spelling p ++ []) p (append-nil (piece_spelling p)) form;
+  agrees = subst (λ (x : List ℕ). Agrees x (piece_spelling p ++ [])) (sym whole) (subst (λ (x : List ℕ). Agrees (piece_spelling p ++ bad) x) (sym (append-nil (piece_spelling p))) (agrees_front (piece_spelling p) bad));
+}
 
 -- a fault within a part
 pub seen_within : (fresh : Bool) (byte : ℕ) (seen more bytes bad : List ℕ) (p : Piece) → bytes ≡ byte ∷ (seen ++ bad) → byte ∷ (seen ++ more) ≡ piece_spelling p → is_piece fresh p ≡ true → Seen fresh bytes bad
