@@ -1,5 +1,5 @@
 -- Kinds of bytes. (ISO/IEC 9899:1999, 5.2.1 and 6.4; what a literal holds: this project.)
-use Rattle.std.specs.Prelude.{ℕ, ◌==◌, ◌-◌, Bool, true, false, not, ◌||◌, ◌&&◌, nat_le, List, [], ◌∷◌, if◌then◌else◌}
+use Rattle.std.specs.Prelude.{ℕ, ◌==◌, ◌-◌, Bool, false, not, ◌||◌, ◌&&◌, nat_le, List, [], ◌∷◌, if◌then◌else◌}
 
 -- whether a byte lies between two, these included
 abbrev pub is_between : ℕ → ℕ → ℕ → Bool

@@ -1,13 +1,13 @@
 -- How a number, a literal, a comment or a line with `#` ends that begins at a place: as it should, or by a
 -- fault. (ISO/IEC 9899:1999, 6.4.4, 6.4.5 and 6.4.9; the faults and their places: this project.)
-use Rattle.std.specs.Prelude.{ℕ, ◌==◌, Bool, true, false, not, ◌||◌, ◌&&◌, List, [], ◌∷◌, map, Option, Some, None, codes, if◌then◌else◌}
+use Rattle.std.specs.Prelude.{ℕ, ◌==◌, Bool, true, not, ◌||◌, ◌&&◌, List, [], ◌∷◌, map, Option, Some, None, codes, if◌then◌else◌}
 use Rattle.cl_ast.specs.declared.fault.LexKind.{LexKind}
 use Rattle.cl_ast.specs.declared.fault.LexKind.TheVariants as faults
 use Rattle.cl_ast.specs.Plain.{PlainKind, Character, Str}
 use Rattle.cl_ast.specs.Bytes.{is_line_end, is_blank, is_space, is_digit, is_hexadecimal_digit, is_name_byte, begins_with}
 use Rattle.cl_ast.specs.Lexemes.{Spelled, character_meaning, same_bytes, value_on, fits_long, number_kind}
 use Rattle.cl_ast.specs.Pieces.{is_name, is_literal_kind}
-use Rattle.cl_ast.specs.Rows.{front_run, after_run, behind_first, string_row, after_string_row, character_at, after_prefix, decimal_row, after_decimal_row, suffix_row, after_suffix, after_close}
+use Rattle.cl_ast.specs.Rows.{front_run, after_run, behind_first, string_row, after_string_row, character_at, after_prefix, decimal_row, after_decimal_row, suffix_row, after_suffix}
 
 -- a token and the bytes behind it, or a fault and the bytes from its place
 pub data LiteralEnd : Type 0 where

@@ -1,6 +1,6 @@
 -- What a source is made of: tokens, what separates them, and lines with `#`. (ISO/IEC 9899:1999, 6.4.9 for
 -- comments; the two kinds of line with `#`: this project.)
-use Rattle.std.specs.Prelude.{ℕ, ◌+◌, ◌==◌, Bool, true, false, not, ◌||◌, ◌&&◌, List, [], ◌∷◌, ◌++◌, length, Option, Some, None, is_some, codes, if◌then◌else◌}
+use Rattle.std.specs.Prelude.{ℕ, ◌+◌, ◌==◌, Bool, true, false, not, ◌||◌, ◌&&◌, List, [], ◌∷◌, ◌++◌, length, Option, Some, None, is_some, codes}
 use Rattle.std.specs.List.{list_all}
 use Rattle.cl_ast.specs.declared.mark.Mark.TheVariants as marks
 use Rattle.cl_ast.specs.Plain.{PlainKind, Name, Int, Long, Character, Punctuator, Define, PlainToken}

@@ -1,7 +1,7 @@
 -- The longest rows of bytes at a place: of one kind, and of the characters of a literal. (ISO/IEC 9899:1999,
 -- 6.4, paragraph 4.)
-use Rattle.std.specs.Prelude.{ℕ, ◌+◌, ◌==◌, Bool, true, false, not, ◌||◌, ◌&&◌, List, [], ◌∷◌, take, drop, Option, Some, None, if◌then◌else◌}
-use Rattle.cl_ast.specs.Bytes.{is_x, is_line_end, is_digit, is_hexadecimal_digit, is_suffix, is_string_byte, is_escape, is_character_byte, is_character_escape, begins_with}
+use Rattle.std.specs.Prelude.{ℕ, ◌+◌, ◌==◌, Bool, ◌&&◌, List, [], ◌∷◌, take, drop, Option, Some, None, if◌then◌else◌}
+use Rattle.cl_ast.specs.Bytes.{is_x, is_digit, is_suffix, is_string_byte, is_escape, is_character_byte, is_character_escape, begins_with}
 use Rattle.cl_ast.specs.Lexemes.{Spelled, Itself, Escape}
 
 -- how many bytes at the front pass the test

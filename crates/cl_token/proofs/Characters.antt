@@ -1,8 +1,8 @@
 -- The characters of a string, one after another.
-use Rattle.std.proofs.Common.{◌≡◌, ℕ, Bool, true, false, eqb, ◌&&◌, List, [], ◌∷◌, ◌++◌, map, Option, Some, None, refl, sym, ap, ◌∙◌, inl, inr, append_assoc}
+use Rattle.std.proofs.Common.{◌≡◌, ℕ, eqb, ◌&&◌, List, [], ◌∷◌, ◌++◌, map, Option, Some, None, refl, sym, ap, ◌∙◌, inl, inr, append_assoc}
 use Rattle.std.proofs.lemmas.Bool.{cases_Bool}
 use Rattle.cl_ast.specs.Bytes.{is_string_byte, is_escape, escape_byte}
-use Rattle.cl_ast.specs.Lexemes.{Spelled, Itself, Escape, character_meaning}
+use Rattle.cl_ast.specs.Lexemes.{character_meaning}
 use Rattle.cl_ast.specs.Rows.{string_row, after_string_row}
 use Rattle.cl_token.specs.Scanning.{meant, string_head}
 

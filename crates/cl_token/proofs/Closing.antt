@@ -1,6 +1,6 @@
 -- A comment that ends holds no `*/`, and a list that begins so goes on so.
-use Rattle.std.proofs.Common.{◌≡◌, ℕ, Bool, true, false, eqb, not, ◌&&◌, ◌||◌, List, [], ◌∷◌, ◌++◌, Option, Some, None, refl, sym, ap, ◌∙◌, ◌⊎◌, inl, inr}
-use Rattle.std.proofs.lemmas.Bool.{eqb-true, cases_Bool, and_parts, or_from}
+use Rattle.std.proofs.Common.{◌≡◌, ℕ, Bool, true, false, eqb, ◌&&◌, List, [], ◌∷◌, ◌++◌, Option, Some, refl, sym, ap, ◌∙◌, inl, inr}
+use Rattle.std.proofs.lemmas.Bool.{eqb-true, cases_Bool, and_parts}
 use Rattle.cl_ast.specs.Bytes.{begins_with}
 use Rattle.cl_ast.specs.Pieces.{closes}
 use Rattle.cl_ast.specs.Rows.{behind_first, after_close}

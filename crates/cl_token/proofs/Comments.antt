@@ -1,9 +1,8 @@
 -- A comment ends at its first `*/`, and a tail goes on behind it.
-use Rattle.std.proofs.Common.{◌≡◌, ◌≢◌, ◌<◌, arith, length, ℕ, Bool, true, false, eqb, cond, not, ◌&&◌, ◌||◌, List, [], ◌∷◌, Option, Some, None, refl, sym, ap, ◌∙◌, inl, inr}
+use Rattle.std.proofs.Common.{◌≡◌, ◌≢◌, ◌<◌, arith, length, ℕ, Bool, true, false, eqb, not, ◌&&◌, List, [], ◌∷◌, Option, Some, None, refl, sym, ap, ◌∙◌, inl, inr}
 use Rattle.std.proofs.lemmas.Bool.{cases_Bool, eqb-true, ne_eqb}
-use Rattle.cl_ast.specs.declared.fault.LexKind.{LexKind}
 use Rattle.cl_ast.specs.declared.fault.LexKind.TheVariants as faults
-use Rattle.cl_ast.specs.Bytes.{is_line_end, is_blank, begins_with}
+use Rattle.cl_ast.specs.Bytes.{is_line_end, is_blank}
 use Rattle.cl_ast.specs.Rows.{after_close, after_run}
 use Rattle.cl_ast.specs.Ends.{LineEnd, LineEnds, LineFails, NoLine, tail_on, tail_end}
 

@@ -1,12 +1,11 @@
 -- Kinds of bytes that exclude each other, a token by its place, and the step at a list of bytes.
 use Rattle.std.proofs.Common.{◌≡◌, ℕ, ◌+◌, ◌-◌, ◌<◌, ◌≤◌, Bool, true, false, eqb, leb, not, ◌&&◌, ◌||◌, List, [], ◌∷◌, length, refl, sym, ap, ◌∙◌, inl, inr, arith}
 use Rattle.std.proofs.lemmas.Bool.{cases_Bool, and_parts, and_from, or_cases, or_from, or_left, or_right, eqb-true, ne_eqb, leb-true, le-leb, not_from_false}
-use Rattle.cl_ast.specs.declared.fault.LexKind.TheVariants as faults
 use Rattle.cl_ast.specs.Plain.{PlainKind, PlainToken}
 use Rattle.cl_ast.specs.Bytes.{is_between, is_line_end, is_space, is_blank, is_separator, is_digit, is_hexadecimal_digit, is_letter, is_name_byte, is_x, is_suffix, begins_with}
 use Rattle.cl_ast.specs.Pieces.{token_from}
 use Rattle.cl_ast.specs.Ends.{literal_end}
-use Rattle.cl_token.specs.Scanning.{Step, Goes, Stops, step, token_between, word_step, literal_step, step_at}
+use Rattle.cl_token.specs.Scanning.{Goes, step, token_between, word_step, literal_step}
 
 -- no test both passes and fails
 pub true_is_false : {A : Type 0} → ◌≡◌ {A = Bool} true false → A

@@ -1,21 +1,19 @@
 -- A step stops exactly at the fault of its bytes.
-use Rattle.std.proofs.Common.{◌≡◌, ℕ, ◌-◌, ◌≤◌, Bool, true, false, cond, eqb, not, ◌&&◌, ◌||◌, List, [], ◌∷◌, ◌++◌, length, Option, Some, None, refl, sym, ap, subst, ◌∙◌, ◌⊎◌, inl, inr, arith}
+use Rattle.std.proofs.Common.{◌≡◌, ℕ, ◌≤◌, Bool, true, false, cond, eqb, not, ◌&&◌, ◌||◌, List, [], ◌∷◌, length, Option, Some, None, refl, sym, ap, subst, ◌∙◌, inl, inr}
 use Rattle.std.specs.Prelude.{is_some}
-use Rattle.std.proofs.lemmas.Bool.{cases_Bool, eqb-true, ne_eqb, and_parts, and_from, or_from, not-true, not_from_false, cond-true, cond-false}
+use Rattle.std.proofs.lemmas.Bool.{cases_Bool, eqb-true, and_parts, not-true, cond-true, cond-false}
 use Rattle.cl_ast.specs.declared.fault.LexKind.{LexKind}
 use Rattle.cl_ast.specs.declared.fault.LexKind.TheVariants as faults
 use Rattle.cl_ast.specs.declared.mark.Mark.{Mark}
 use Rattle.cl_ast.specs.Plain.{PlainToken}
-use Rattle.cl_ast.specs.Bytes.{is_separator, is_letter, is_digit, is_line_end, is_space, begins_with}
+use Rattle.cl_ast.specs.Bytes.{is_separator, is_letter, is_digit, is_line_end, is_space}
 use Rattle.cl_ast.specs.Lexemes.{mark_of}
-use Rattle.cl_ast.specs.Pieces.{Piece}
-use Rattle.cl_ast.specs.Rows.{after_close, behind_first}
+use Rattle.cl_ast.specs.Rows.{after_close}
 use Rattle.cl_ast.specs.Ends.{LiteralEnd, NoLiteral, Ends, Fails, literal_end, LineEnd, LineEnds, LineFails, NoLine, line_end}
-use Rattle.cl_ast.specs.Splits.{IsFirst}
-use Rattle.cl_ast.specs.Faults.{FailsHere, LiteralFails, LineFailsSo, IsNoLine, begins_mark, begins_line, begins_nothing, block_of, is_open_block}
-use Rattle.cl_token.specs.Scanning.{Step, Goes, Stops, step, literal_step, other_step, line_step, line_step_of, slash_step, block_step, mark_step, mark_step_of, mark_at, one_mark, two_marks}
+use Rattle.cl_ast.specs.Faults.{FailsHere, LineFailsSo, IsNoLine, begins_mark, begins_line, begins_nothing, block_of, is_open_block}
+use Rattle.cl_token.specs.Scanning.{Goes, Stops, step, literal_step, other_step, line_step, line_step_of, slash_step, block_step, mark_step, mark_step_of, mark_at, one_mark, two_marks}
 use Rattle.cl_token.proofs.Laws.{Found}
-use Rattle.cl_token.proofs.Bounds.{chosen, no_separator, no_letter}
+use Rattle.cl_token.proofs.Bounds.{chosen}
 use Rattle.cl_token.proofs.Literals.{NoStart, absent_start, literal_absent, literal_class, literal_right, fails_right, is_literal_fault, is_there, line_right, is_line_fault, line_ends_right}
 use Rattle.cl_token.proofs.Sound.{sound}
 use Rattle.cl_token.proofs.Complete.{complete}

@@ -1,5 +1,5 @@
 -- What is known of one step: the part that it reads, and the fault at which it stops. (Statements.)
-use Rattle.std.proofs.Common.{◌≡◌, ℕ, ◌-◌, ◌≤◌, Bool, List, [], ◌∷◌, ◌++◌, length}
+use Rattle.std.proofs.Common.{◌≡◌, ℕ, ◌-◌, Bool, List, ◌++◌, length}
 use Rattle.cl_ast.specs.Plain.{PlainToken}
 use Rattle.cl_ast.specs.Pieces.{Piece, piece_tokens, fresh_behind}
 use Rattle.cl_ast.specs.Splits.{IsFirst}

@@ -21,7 +21,12 @@ pub mod Names
 pub mod Pieces
 pub mod Runs
 pub mod Scanned
+pub mod ScannedLines
+pub mod ScannedLiterals
+pub mod ScannedSeen
+pub mod ScannedTails
 pub mod Sound
 pub mod TailSound
 pub mod Values
 pub mod Walk
+pub mod Ways

@@ -1,17 +1,16 @@
 -- A line with `#` that ends has one of the two forms.
-use Rattle.std.proofs.Common.{◌≡◌, ℕ, Bool, true, false, cond, eqb, not, ◌&&◌, ◌||◌, List, [], ◌∷◌, ◌++◌, Option, Some, None, refl, sym, ap, subst, ◌∙◌, ◌⊎◌, inl, inr, append_assoc}
+use Rattle.std.proofs.Common.{◌≡◌, ℕ, Bool, true, false, cond, eqb, not, ◌&&◌, List, [], ◌∷◌, ◌++◌, Option, Some, None, refl, sym, ap, ◌∙◌, inl, inr, append_assoc}
 use Rattle.std.specs.Prelude.{codes}
 use Rattle.std.specs.List.{list_all}
-use Rattle.std.proofs.lemmas.Bool.{eqb-true, cases_Bool, and_parts, and_from, not_from_false}
-use Rattle.cl_ast.specs.declared.fault.LexKind.{LexKind}
+use Rattle.std.proofs.lemmas.Bool.{cases_Bool, and_parts, and_from, not_from_false}
 use Rattle.cl_ast.specs.declared.fault.LexKind.TheVariants as faults
 use Rattle.cl_ast.specs.Plain.{PlainKind}
 use Rattle.cl_ast.specs.Bytes.{is_line_end, is_space, is_blank, is_name_byte, begins_with}
 use Rattle.cl_ast.specs.Lexemes.{same_bytes, lexeme_spelling, lexeme_kind, lexeme_goes_on}
-use Rattle.cl_ast.specs.Pieces.{Piece, Includes, Defines, DefineLine, IncludeLine, piece_spelling, define_spelling, include_spelling, minus_spelling, is_piece, is_define, is_head, is_include, is_minus, are_blanks, is_name, is_literal_kind, is_tail, fillers_spelling, piece_goes_on}
+use Rattle.cl_ast.specs.Pieces.{Piece, Includes, Defines, DefineLine, IncludeLine, minus_spelling, is_define, is_head, is_minus, are_blanks, is_name, is_literal_kind, is_tail, fillers_spelling}
 use Rattle.cl_ast.specs.Rows.{front_run, after_run, behind_first}
 use Rattle.cl_ast.specs.Splits.{IsFirst}
-use Rattle.cl_ast.specs.Ends.{LiteralEnd, NoLiteral, Ends, Fails, literal_end, LineEnd, LineEnds, LineFails, NoLine, tail_end, after_minus, literal_place, behind_literal, placed_end, define_end, word_end, line_end}
+use Rattle.cl_ast.specs.Ends.{LiteralEnd, NoLiteral, Ends, Fails, literal_end, LineEnds, tail_end, after_minus, literal_place, behind_literal, placed_end, line_end}
 use Rattle.cl_token.proofs.Bounds.{chosen}
 use Rattle.cl_token.proofs.Closing.{begins_front, first_is}
 use Rattle.cl_token.proofs.Runs.{row_joins, front_all, after_begins, front_passes, same_is}

@@ -1,15 +1,14 @@
 -- A number or a literal that ends is spelled as its token.
-use Rattle.std.proofs.Common.{◌≡◌, ℕ, ◌≤◌, ◌<◌, Bool, true, false, cond, eqb, ◌&&◌, ◌||◌, not, List, [], ◌∷◌, ◌++◌, map, take, length, Option, Some, None, refl, sym, ap, subst, ◌∙◌, ◌⊎◌, inl, inr, arith, append_assoc}
+use Rattle.std.proofs.Common.{◌≡◌, ℕ, Bool, true, false, eqb, ◌&&◌, not, List, [], ◌∷◌, ◌++◌, map, Option, Some, None, refl, sym, ap, subst, ◌∙◌, inl, inr, append_assoc}
 use Rattle.std.specs.List.{list_all}
-use Rattle.std.proofs.lemmas.Bool.{eqb-true, ne_eqb, cases_Bool, and_parts, and_from, not-true, cond-true, cond-false}
-use Rattle.std.proofs.lemmas.List.{append-nil}
+use Rattle.std.proofs.lemmas.Bool.{eqb-true, cases_Bool, and_parts, and_from, cond-true, cond-false}
 use Rattle.cl_ast.specs.Plain.{PlainKind, Str, Character}
-use Rattle.cl_ast.specs.Bytes.{is_digit, is_hexadecimal_digit, is_name_byte, is_letter, is_suffix, is_x, is_string_byte, is_character_byte, is_escape, is_character_escape, begins_with}
+use Rattle.cl_ast.specs.Bytes.{is_digit, is_hexadecimal_digit, is_name_byte, is_suffix, is_x, is_string_byte, is_character_byte, is_escape, is_character_escape, begins_with}
 use Rattle.cl_ast.specs.Lexemes.{Spelled, Itself, Escape, Lexeme, Decimal, Hexadecimal, Quoted, Text, character_spelling, characters_spelling, character_meaning, lexeme_spelling, lexeme_kind, lexeme_goes_on, is_decimal, is_hexadecimal, is_a_suffix, value_on, number_kind, fits_long, is_string_character, is_character}
 use Rattle.cl_ast.specs.Rows.{front_run, after_run, behind_first, string_row, after_string_row, character_at, after_prefix, decimal_row, after_decimal_row, suffix_row, after_suffix}
-use Rattle.cl_ast.specs.Ends.{LiteralEnd, NoLiteral, Ends, Fails, is_cut, is_line_cut, behind_digits, hexadecimal_end, decimal_end, based_end, number_end, string_end, character_end_behind, character_end, literal_end}
+use Rattle.cl_ast.specs.Ends.{LiteralEnd, NoLiteral, Ends, is_cut, is_line_cut, behind_digits, hexadecimal_end, decimal_end, based_end, string_end, character_end_behind, character_end, literal_end}
 use Rattle.cl_token.proofs.Bounds.{chosen}
-use Rattle.cl_token.proofs.Runs.{row_joins, front_all, after_begins, front_passes, after_passes}
+use Rattle.cl_token.proofs.Runs.{row_joins, front_all, front_passes}
 
 -- the bytes are a token of this kind and the rest
 pub record IsLexeme (bytes : List ℕ) (kind : PlainKind) (rest : List ℕ) : Type 0 where
@@ -40,7 +39,7 @@ suffix_joins : (bytes : List ℕ) → bytes ≡ suffix_row bytes ++ after_suffix
 suffix_joins [] = refl
 suffix_joins (byte ∷ bytes) = elim (cases_Bool (is_suffix byte)) [ inl t ↦ rw t refl | inr f ↦ rw f refl ]
 
-suffix_good : (bytes : List ℕ) → is_a_suffix (suffix_row bytes) ≡ true
+pub suffix_good : (bytes : List ℕ) → is_a_suffix (suffix_row bytes) ≡ true
 suffix_good [] = refl
 suffix_good (byte ∷ bytes) = elim (cases_Bool (is_suffix byte)) [ inl t ↦ rw t t | inr f ↦ rw f refl ]
 
@@ -69,17 +68,17 @@ ended bytes value behind kind rest e =
     ]
 
 -- the digits and the suffix of a number
-joined : (digits behind rest : List ℕ) → after_suffix behind ≡ rest → digits ++ behind ≡ (digits ++ suffix_row behind) ++ rest
+pub joined : (digits behind rest : List ℕ) → after_suffix behind ≡ rest → digits ++ behind ≡ (digits ++ suffix_row behind) ++ rest
 joined digits behind rest e = ap (λ (b : List ℕ). digits ++ b) (suffix_joins behind ∙ ap (λ (r : List ℕ). suffix_row behind ++ r) e) ∙ sym (append_assoc digits (suffix_row behind) rest)
 
-decimal_good : (byte : ℕ) (bytes : List ℕ) → is_digit byte ≡ true → is_decimal (decimal_row (byte ∷ bytes)) ≡ true
+pub decimal_good : (byte : ℕ) (bytes : List ℕ) → is_digit byte ≡ true → is_decimal (decimal_row (byte ∷ bytes)) ≡ true
 decimal_good byte bytes d =
     elim (cases_Bool (eqb byte 48)) [
       | inl t ↦ rw t refl
       | inr f ↦ rw f (ap is_decimal (front_passes is_digit byte bytes d) ∙ (cond-false (eqb byte 48) _ _ f ∙ and_from (is_digit byte) (list_all is_digit (front_run is_digit bytes)) d (front_all is_digit bytes)))
     ]
 
-decimal_joins : (bytes : List ℕ) → bytes ≡ decimal_row bytes ++ after_decimal_row bytes
+pub decimal_joins : (bytes : List ℕ) → bytes ≡ decimal_row bytes ++ after_decimal_row bytes
 decimal_joins [] = refl
 decimal_joins (byte ∷ bytes) =
     elim (cases_Bool (eqb byte 48)) [
@@ -100,7 +99,7 @@ decimal_is byte bytes kind rest d e =
       longest = i.longest;
     }
 
-hexadecimal_good : (digits : List ℕ) → begins_with is_hexadecimal_digit digits ≡ true → is_hexadecimal (front_run is_hexadecimal_digit digits) ≡ true
+pub hexadecimal_good : (digits : List ℕ) → begins_with is_hexadecimal_digit digits ≡ true → is_hexadecimal (front_run is_hexadecimal_digit digits) ≡ true
 hexadecimal_good [] b = b
 hexadecimal_good (byte ∷ bytes) b = ap is_hexadecimal (front_passes is_hexadecimal_digit byte bytes b) ∙ and_from (is_hexadecimal_digit byte) _ b (front_all is_hexadecimal_digit bytes)
 
@@ -122,7 +121,7 @@ hexadecimal_is x digits kind rest isx e =
       | inr f ↦ absurd cc
     ]
 
-prefix_is : (bytes digits : List ℕ) → after_prefix bytes ≡ Some digits → (x : ℕ) × (is_x x ≡ true) × (bytes ≡ 48 ∷ x ∷ digits)
+pub prefix_is : (bytes digits : List ℕ) → after_prefix bytes ≡ Some digits → (x : ℕ) × (is_x x ≡ true) × (bytes ≡ 48 ∷ x ∷ digits)
 prefix_is [] digits e = absurd cc
 prefix_is (byte ∷ []) digits e = absurd cc
 prefix_is (byte ∷ x ∷ bytes) digits e =
@@ -143,7 +142,7 @@ based_is byte bytes (Some digits) kind rest d at e =
 
 -- ---- strings and characters
 
-string_joins : (more : List ℕ) → more ≡ characters_spelling (string_row more) ++ after_string_row more
+pub string_joins : (more : List ℕ) → more ≡ characters_spelling (string_row more) ++ after_string_row more
 string_joins [] = refl
 string_joins (byte ∷ []) = elim (cases_Bool (is_string_byte byte)) [ inl t ↦ rw t refl | inr f ↦ rw f refl ]
 string_joins (byte ∷ next ∷ bytes) =
@@ -158,7 +157,7 @@ string_joins (byte ∷ next ∷ bytes) =
           ]
     ]
 
-string_good : (more : List ℕ) → list_all is_string_character (string_row more) ≡ true
+pub string_good : (more : List ℕ) → list_all is_string_character (string_row more) ≡ true
 string_good [] = refl
 string_good (byte ∷ []) = elim (cases_Bool (is_string_byte byte)) [ inl t ↦ rw t (and_from (is_string_byte byte) true t refl) | inr f ↦ rw f refl ]
 string_good (byte ∷ next ∷ bytes) =
@@ -195,9 +194,9 @@ string_is more kind rest e =
     ]
 
 -- the character that stands here
-record IsCharacterAt (more : List ℕ) (c : Spelled) (behind : List ℕ) : Type 0 where
-  good : is_character c ≡ true
-  whole : more ≡ character_spelling c ++ behind
+pub record IsCharacterAt (more : List ℕ) (c : Spelled) (behind : List ℕ) : Type 0 where
+  pub good : is_character c ≡ true
+  pub whole : more ≡ character_spelling c ++ behind
 
 some_pair : (a b : Spelled) (xs ys : List ℕ) → some {A = Spelled × List ℕ} (a, xs) ≡ some {A = Spelled × List ℕ} (b, ys) → (a ≡ b) × (xs ≡ ys)
 some_pair a b xs ys e = let p : ◌≡◌ {A = Spelled × List ℕ} (a, xs) (b, ys) = cc in (ap (λ (x : Spelled × List ℕ). x.0) p, ap (λ (x : Spelled × List ℕ). x.1) p)
@@ -207,7 +206,7 @@ at_same c d more behind behind' e good whole =
     let p = some_pair c d behind behind' e in
     subst (λ (x : Spelled). IsCharacterAt more x behind') p.0 (subst (λ (b : List ℕ). IsCharacterAt more c b) p.1 (record { good = good; whole = whole }))
 
-character_is_at : (more : List ℕ) (c : Spelled) (behind : List ℕ) → character_at more ≡ some {A = Spelled × List ℕ} (c, behind) → IsCharacterAt more c behind
+pub character_is_at : (more : List ℕ) (c : Spelled) (behind : List ℕ) → character_at more ≡ some {A = Spelled × List ℕ} (c, behind) → IsCharacterAt more c behind
 character_is_at [] c behind e = absurd cc
 character_is_at (byte ∷ []) c behind e =
     elim (chosen (is_character_byte byte) _ _ _ e) [

@@ -1,15 +1,14 @@
 -- Which bytes begin a number or a literal, and by which faults they fail.
-use Rattle.std.proofs.Common.{◌≡◌, ℕ, ◌≤◌, ◌<◌, Bool, true, false, cond, eqb, ◌&&◌, ◌||◌, not, List, [], ◌∷◌, Option, Some, None, refl, sym, ap, ◌∙◌, ◌⊎◌, inl, inr, arith}
+use Rattle.std.proofs.Common.{◌≡◌, ℕ, Bool, true, false, cond, eqb, ◌&&◌, not, List, [], ◌∷◌, Option, Some, None, refl, sym, ap, ◌∙◌, inl, inr, arith}
 use Rattle.std.specs.Prelude.{codes}
-use Rattle.std.proofs.lemmas.Bool.{eqb-true, ne_eqb, cases_Bool, cond-true, cond-false}
+use Rattle.std.proofs.lemmas.Bool.{eqb-true, cases_Bool}
 use Rattle.cl_ast.specs.declared.fault.LexKind.{LexKind}
 use Rattle.cl_ast.specs.declared.fault.LexKind.TheVariants as faults
-use Rattle.cl_ast.specs.Plain.{PlainKind}
 use Rattle.cl_ast.specs.Bytes.{is_line_end, is_space, is_blank, is_separator, is_letter, is_digit, is_hexadecimal_digit, is_name_byte, begins_with}
 use Rattle.cl_ast.specs.Lexemes.{Spelled, same_bytes, fits_long, value_on}
 use Rattle.cl_ast.specs.Pieces.{is_literal_kind}
 use Rattle.cl_ast.specs.Rows.{front_run, after_run, after_prefix, after_suffix, decimal_row, after_decimal_row, after_string_row, character_at}
-use Rattle.cl_ast.specs.Ends.{LiteralEnd, NoLiteral, Ends, Fails, is_line_cut, is_cut, behind_digits, hexadecimal_end, decimal_end, based_end, number_end, string_end, character_end_behind, character_end, literal_end, LineEnd, LineEnds, LineFails, NoLine, tail_on, tail_end, behind_literal, literal_place, placed_end, define_end, word_end, line_end}
+use Rattle.cl_ast.specs.Ends.{LiteralEnd, NoLiteral, Ends, Fails, is_line_cut, is_cut, behind_digits, based_end, number_end, string_end, character_end_behind, character_end, literal_end, LineEnd, LineEnds, LineFails, NoLine, tail_on, tail_end, behind_literal, literal_place, placed_end, define_end, word_end, line_end}
 use Rattle.cl_token.proofs.Bounds.{no_separator, no_letter, within, chosen}
 
 -- ---- what begins a literal

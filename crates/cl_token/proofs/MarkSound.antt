@@ -1,13 +1,13 @@
 -- A mark that is read is the longest.
-use Rattle.std.proofs.Common.{◌≡◌, ℕ, ◌≤◌, Bool, true, false, eqb, leb, not, ◌&&◌, ◌||◌, List, [], ◌∷◌, ◌++◌, map, length, Option, Some, None, refl, sym, ap, subst, ◌∙◌, ◌⊎◌, inl, inr, arith}
+use Rattle.std.proofs.Common.{◌≡◌, ℕ, ◌≤◌, Bool, true, false, eqb, leb, ◌&&◌, ◌||◌, List, [], ◌∷◌, map, length, Option, Some, None, refl, sym, ap, ◌∙◌, inl, inr, arith}
 use Rattle.std.specs.Prelude.{is_some, option_map}
 use Rattle.std.specs.List.{list_all}
-use Rattle.std.proofs.lemmas.Bool.{eqb-true, leb-true, cases_Bool, and_parts, or_from}
+use Rattle.std.proofs.lemmas.Bool.{leb-true, and_parts, or_from}
 use Rattle.cl_ast.specs.declared.mark.Mark.{Mark}
 use Rattle.cl_ast.specs.declared.mark.TheConstants.{MARKS}
 use Rattle.cl_ast.specs.Plain.{PlainKind, Punctuator}
 use Rattle.cl_ast.specs.Bytes.{begins_with}
-use Rattle.cl_ast.specs.Lexemes.{Lexeme, Sign, lexeme_kind, lexeme_spelling, lexeme_goes_on, same_bytes, look_up, mark_of, opens_comment}
+use Rattle.cl_ast.specs.Lexemes.{Sign, lexeme_goes_on, same_bytes, look_up, mark_of, opens_comment}
 use Rattle.cl_token.specs.Scanning.{mark_at, one_mark, two_marks}
 use Rattle.cl_token.proofs.Bounds.{chosen}
 use Rattle.cl_token.proofs.Runs.{same_is}

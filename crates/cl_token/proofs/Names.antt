@@ -1,9 +1,9 @@
 -- When the letters at a place are a name.
-use Rattle.std.proofs.Common.{◌≡◌, ℕ, Bool, true, false, cond, ◌&&◌, ◌||◌, List, [], ◌∷◌, Option, Some, None, refl, sym, ap, ◌∙◌, inl, inr}
+use Rattle.std.proofs.Common.{◌≡◌, ℕ, Bool, true, false, List, [], ◌∷◌, Option, Some, None, refl, sym, ap, ◌∙◌, inl, inr}
 use Rattle.std.specs.List.{list_all}
 use Rattle.std.proofs.lemmas.Bool.{cases_Bool, and_from, or_left}
 use Rattle.cl_ast.specs.declared.word.Word.{Word}
-use Rattle.cl_ast.specs.Plain.{PlainKind, Name, Keyword, Reserved}
+use Rattle.cl_ast.specs.Plain.{Name}
 use Rattle.cl_ast.specs.Bytes.{is_letter, is_digit, is_name_byte, begins_with}
 use Rattle.cl_ast.specs.Lexemes.{word_or, letters_kind, word_of, is_reserved, is_letters}
 use Rattle.cl_ast.specs.Pieces.{is_name_kind, is_name}

@@ -1,11 +1,9 @@
 -- A part has at least one byte, and at most as many tokens as bytes.
-use Rattle.std.proofs.Common.{◌≡◌, ℕ, ◌+◌, ◌-◌, ◌≤◌, Bool, true, false, ◌&&◌, List, [], ◌∷◌, ◌++◌, length, Option, Some, None, refl, sym, ap, subst, ◌∙◌, arith, length-append}
+use Rattle.std.proofs.Common.{◌≡◌, ℕ, ◌+◌, ◌≤◌, Bool, true, false, List, [], ◌∷◌, ◌++◌, length, Option, Some, None, sym, ap, ◌∙◌, arith, length-append}
 use Rattle.std.specs.Prelude.{is_some, codes}
-use Rattle.std.proofs.lemmas.Bool.{and_parts}
-use Rattle.cl_ast.specs.declared.mark.Mark.TheVariants as marks
-use Rattle.cl_ast.specs.Plain.{PlainKind, PlainToken, Name, Define, Punctuator}
+use Rattle.cl_ast.specs.Plain.{PlainKind}
 use Rattle.cl_ast.specs.Lexemes.{Lexeme, Letters, Decimal, Hexadecimal, Quoted, Text, Sign, lexeme_spelling, lexeme_kind, mark_of}
-use Rattle.cl_ast.specs.Pieces.{Filler, Separator, Block, Line, Piece, Fills, Lexed, Includes, Defines, DefineLine, filler_spelling, fillers_spelling, head_spelling, minus_spelling, piece_spelling, piece_tokens, lexeme_tokens, minus_tokens, is_piece}
+use Rattle.cl_ast.specs.Pieces.{Filler, Separator, Block, Line, Piece, Fills, Lexed, Includes, Defines, DefineLine, filler_spelling, fillers_spelling, head_spelling, piece_spelling, piece_tokens, lexeme_tokens, minus_tokens, is_piece}
 
 not_true : ◌≡◌ {A = Bool} false true → ⊥
 not_true e = cc

@@ -1,16 +1,15 @@
 -- What a step reads is a part of the source.
-use Rattle.std.proofs.Common.{◌≡◌, ℕ, ◌-◌, ◌≤◌, Bool, true, false, cond, eqb, not, ◌&&◌, ◌||◌, List, [], ◌∷◌, ◌++◌, length, Option, Some, None, refl, sym, ap, subst, ◌∙◌, ◌⊎◌, inl, inr, append_assoc}
+use Rattle.std.proofs.Common.{◌≡◌, ℕ, ◌≤◌, Bool, true, false, eqb, not, ◌&&◌, List, [], ◌∷◌, ◌++◌, length, Option, Some, None, refl, sym, ap, subst, ◌∙◌, inl, inr, append_assoc}
 use Rattle.std.specs.Prelude.{is_some}
-use Rattle.std.proofs.lemmas.Bool.{eqb-true, cases_Bool, and_parts, and_from, not_from_false, cond-true}
+use Rattle.std.proofs.lemmas.Bool.{eqb-true, and_parts, not_from_false, cond-true}
 use Rattle.cl_ast.specs.declared.mark.Mark.{Mark}
 use Rattle.cl_ast.specs.Plain.{PlainKind, PlainToken, Punctuator}
 use Rattle.cl_ast.specs.Bytes.{is_separator, is_letter, is_line_end, is_name_byte, begins_with}
-use Rattle.cl_ast.specs.Lexemes.{Lexeme, Letters, is_letters, letters_kind, lexeme_kind}
-use Rattle.cl_ast.specs.Pieces.{Piece, Fills, Lexed, Filler, Separator, Block, Line, piece_tokens, fresh_behind, is_piece, closes}
+use Rattle.cl_ast.specs.Lexemes.{Letters, is_letters, lexeme_kind}
+use Rattle.cl_ast.specs.Pieces.{Fills, Lexed, Separator, Block, Line, closes}
 use Rattle.cl_ast.specs.Rows.{front_run, after_run, after_close}
-use Rattle.cl_ast.specs.Splits.{IsFirst}
 use Rattle.cl_ast.specs.Ends.{LiteralEnd, NoLiteral, Ends, Fails, literal_end, LineEnd, LineEnds, LineFails, NoLine, line_end}
-use Rattle.cl_token.specs.Scanning.{Step, step, Goes, Stops, literal_step, other_step, line_step, line_step_of, slash_step, block_step, mark_step, mark_step_of, mark_at}
+use Rattle.cl_token.specs.Scanning.{step, Goes, literal_step, other_step, line_step, line_step_of, slash_step, block_step, mark_step_of, mark_at}
 use Rattle.cl_token.proofs.Bounds.{chosen}
 use Rattle.cl_token.proofs.Closing.{IsClosed, close_is}
 use Rattle.cl_token.proofs.Complete.{complete}

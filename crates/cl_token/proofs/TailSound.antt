@@ -1,12 +1,12 @@
 -- Blanks and comments to the end of a line are fillers.
-use Rattle.std.proofs.Common.{◌≡◌, ℕ, Bool, true, false, cond, eqb, not, ◌&&◌, ◌||◌, List, [], ◌∷◌, ◌++◌, Option, Some, None, refl, sym, ap, subst, ◌∙◌, ◌⊎◌, inl, inr, append_assoc}
+use Rattle.std.proofs.Common.{◌≡◌, ℕ, Bool, true, false, eqb, not, ◌&&◌, List, [], ◌∷◌, ◌++◌, Option, Some, None, refl, sym, ap, ◌∙◌, inl, inr, append_assoc}
 use Rattle.std.specs.List.{list_all}
-use Rattle.std.proofs.lemmas.Bool.{eqb-true, cases_Bool, and_parts, and_from, or_from, not_from_false, not-true}
+use Rattle.std.proofs.lemmas.Bool.{eqb-true, and_parts, and_from, not_from_false}
 use Rattle.std.proofs.lemmas.List.{append-nil}
 use Rattle.cl_ast.specs.Bytes.{is_line_end, is_blank, begins_with}
-use Rattle.cl_ast.specs.Pieces.{Filler, Separator, Block, Line, filler_spelling, fillers_spelling, filler_goes_on, is_blank_filler, is_filler, is_tail, closes}
+use Rattle.cl_ast.specs.Pieces.{Filler, Separator, Block, Line, filler_spelling, fillers_spelling, filler_goes_on, is_blank_filler, is_tail, closes}
 use Rattle.cl_ast.specs.Rows.{front_run, after_run}
-use Rattle.cl_ast.specs.Ends.{LineEnd, LineEnds, LineFails, NoLine, tail_on, tail_end}
+use Rattle.cl_ast.specs.Ends.{LineEnds, tail_on, tail_end}
 use Rattle.cl_token.proofs.Bounds.{chosen}
 use Rattle.cl_token.proofs.Closing.{closes_on}
 use Rattle.cl_token.proofs.Runs.{row_joins, front_all, after_begins}

@@ -1,5 +1,5 @@
 -- Parts one after another: where they lead, their tokens, and that there is one way.
-use Rattle.std.proofs.Common.{◌≡◌, ℕ, ◌+◌, ◌-◌, ◌<◌, ◌≤◌, Bool, true, false, List, [], ◌∷◌, ◌++◌, length, refl, sym, ap, subst, ◌∙◌, append_assoc, arith, length-append, add-zero}
+use Rattle.std.proofs.Common.{◌≡◌, ℕ, ◌+◌, ◌-◌, ◌≤◌, Bool, true, List, [], ◌∷◌, ◌++◌, length, refl, sym, ap, subst, ◌∙◌, append_assoc, arith, length-append, add-zero}
 use Rattle.std.specs.Prelude.{Err}
 use Rattle.std.proofs.lemmas.List.{append-nil}
 use Rattle.cl_ast.specs.declared.fault.LexKind.{LexKind}
@@ -7,19 +7,20 @@ use Rattle.cl_ast.specs.Plain.{PlainToken}
 use Rattle.cl_ast.specs.Pieces.{Piece, piece_spelling, piece_tokens, fresh_behind}
 use Rattle.cl_ast.specs.Splits.{IsFirst, Leads, tokens_of, Splits}
 use Rattle.cl_ast.specs.Faults.{FailsHere, IsFaultAt}
-use Rattle.cl_token.specs.Lexing.{SameFault, OneFault, IsFirstFault, TellsEnd, TellsFault, IsOnly}
+use Rattle.cl_token.specs.Lexing.{OneFault, IsFirstFault, TellsEnd, TellsFault, IsOnly}
 use Rattle.cl_token.specs.Steps.{StopsSo}
 use Rattle.cl_token.specs.declared.stop.Stop.{Stop}
 use Rattle.cl_token.specs.declared.stop.Stop.TheVariants as stops
 use Rattle.cl_token.specs.declared.lexer.LexEnd.{LexEnd}
 use Rattle.cl_token.specs.declared.lexer.LexEnd.TheVariants as ends
-use Rattle.cl_token.specs.Scanning.{Step, Goes, Stops, step, step_at}
+use Rattle.cl_token.specs.Scanning.{Goes, Stops, step, step_at}
 use Rattle.cl_token.proofs.Laws.{Found}
 use Rattle.cl_token.proofs.Sound.{sound}
 use Rattle.cl_token.proofs.Complete.{complete}
 use Rattle.cl_token.proofs.Failing.{fails_sound, fails_complete, nothing_fails}
 use Rattle.cl_token.proofs.Pieces.{never_empty, few_tokens}
 use Rattle.cl_token.proofs.Scanned.{scanned, fails_within}
+use Rattle.cl_token.proofs.Ways.{spelling_of, spelled}
 
 -- ---- the parts so far
 
@@ -31,15 +32,6 @@ pub record Reached (source : List ℕ) (fresh : Bool) (rest : List ℕ) (tokens 
 
 pub at_front : (source : List ℕ) → Reached source true source []
 at_front source = record { pieces = []; leads = (refl, refl); tokens_are = refl }
-
--- the bytes of parts
-abbrev pub spelling_of : List Piece → List ℕ
-spelling_of [] = []
-spelling_of (p ∷ ps) = piece_spelling p ++ spelling_of ps
-
-pub spelled : (ps : List Piece) (fresh fresh' : Bool) (bytes rest : List ℕ) → Leads fresh bytes ps fresh' rest → bytes ≡ spelling_of ps ++ rest
-spelled [] fresh fresh' bytes rest l = l.1
-spelled (p ∷ ps) fresh fresh' bytes rest l = l.1.whole ∙ (ap (λ (x : List ℕ). piece_spelling p ++ x) (spelled ps (fresh_behind fresh p) fresh' l.0 rest l.2) ∙ sym (append_assoc (piece_spelling p) (spelling_of ps) rest))
 
 pub leads_on : (ps : List Piece) (fresh fresh' : Bool) (bytes mid : List ℕ) (p : Piece) (rest : List ℕ) → Leads fresh bytes ps fresh' mid → IsFirst fresh' mid p rest → Leads fresh bytes (ps ++ p ∷ []) (fresh_behind fresh' p) rest
 leads_on [] fresh fresh' bytes mid p rest l first = rw (l.0, l.1) (rest, first, (refl, refl))

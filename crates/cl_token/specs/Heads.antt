@@ -1,5 +1,5 @@
 -- What contracts see of a line that defines. (This project.)
-use Rattle.std.specs.Prelude.{ℕ, ◌≡◌, ◌≤◌, ◌++◌, Bool, true, false, List, length, Option, Some, None, Result, Ok, Err}
+use Rattle.std.specs.Prelude.{ℕ, ◌≡◌, ◌≤◌, ◌++◌, true, false, List, length, Option, Some, None, Result, Ok}
 use denote.Ref.{Bor}
 use Rattle.cl_ast.specs.Plain.{Name, PlainToken}
 use Rattle.cl_ast.specs.Views.{plain_kind}

@@ -1,13 +1,11 @@
 -- What contracts see of the answers of the lexer's functions. (This project.)
-use Rattle.std.specs.Prelude.{ℕ, ◌≡◌, ◌<◌, ◌≤◌, Bool, List, length, Option, Some, None, Result, Ok, Err}
+use Rattle.std.specs.Prelude.{ℕ, ◌≡◌, List, Option, Some, None, Result, Ok, Err}
 use denote.Ref.{Bor}
 use Rattle.cl_ast.specs.Views.{plain_kind}
-use Rattle.cl_ast.specs.Plain.{PlainToken}
 use Rattle.cl_ast.specs.Ends.{LiteralEnd, NoLiteral, Ends, Fails, LineEnd, LineEnds, LineFails, NoLine}
 use Rattle.cl_token.specs.declared.stop.Read.{Read}
 use Rattle.cl_token.specs.declared.stop.Stop.{Stop}
 use Rattle.cl_token.specs.declared.stop.Stop.TheVariants as stops
-use Rattle.cl_token.specs.Scanning.{Step, Goes, Stops}
 
 -- a stop is such a fault, or want of memory
 abbrev pub StopsLiteral : Stop → LiteralEnd → Type 0

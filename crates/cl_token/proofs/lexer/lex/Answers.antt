@@ -1,9 +1,7 @@
-use Rattle.std.proofs.Common.{◌≡◌, [], length, map}
+use Rattle.std.proofs.Common.{◌≡◌, [], map}
 use Rattle.std.proofs.lemmas.List.{length-map}
-use Rattle.cl_ast.specs.Plain.{PlainToken}
-use Rattle.cl_ast.specs.Splits.{Splits}
 use Rattle.cl_ast.specs.Views.{plain_token}
-use Rattle.cl_token.proofs.Walk.{Reached, goes_on, all_reached, only, few, stop_tells, none_then}
+use Rattle.cl_token.proofs.Walk.{goes_on, all_reached, only, few, stop_tells, none_then}
 use Rattle.cl_token.proofs.lexer.lex.Goals as goal
 
 pub loop-after-preserved : goal.loop-after-preserved

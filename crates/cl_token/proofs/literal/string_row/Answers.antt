@@ -1,4 +1,4 @@
-use Rattle.std.proofs.Common.{◌≡◌, sym, ◌∙◌, arith}
+use Rattle.std.proofs.Common.{sym, ◌∙◌, arith}
 use Rattle.cl_token.proofs.Characters.{string_goes, row_goes}
 use Rattle.cl_token.proofs.literal.string_row.Goals as goal
 
