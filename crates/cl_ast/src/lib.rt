@@ -8,6 +8,8 @@ mod fault;
 mod items;
 mod mark;
 mod span;
+#[cfg(test)]
+mod tests;
 mod token;
 mod word;
 
