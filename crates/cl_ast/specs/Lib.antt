@@ -1,0 +1,10 @@
+pub mod Bytes
+pub mod Ends
+pub mod Faults
+pub mod Lexemes
+pub mod Pieces
+pub mod Plain
+pub mod Room
+pub mod Rows
+pub mod Splits
+pub mod Views
