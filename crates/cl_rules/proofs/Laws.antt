@@ -33,7 +33,7 @@ not_both y bad e = cc
 
 -- ---- the next token
 
-not_or : (a b : Bool) → not (a || b) ≡ true → (not a ≡ true) × (not b ≡ true)
+pub not_or : (a b : Bool) → not (a || b) ≡ true → (not a ≡ true) × (not b ≡ true)
 not_or true b e = absurd cc
 not_or false b e = (refl, e)
 
@@ -106,7 +106,7 @@ behind_next : {T : Type 0} (xs ys : List T) → suc (length (xs ++ ys)) - length
 behind_next xs ys = let e : length (xs ++ ys) ≡ length xs + length ys = length-append xs ys in omega arith
 
 -- a front is no longer than all
-front_length : {T : Type 0} (all seen more : List T) → all ≡ seen ++ more → length seen ≤ length all
+pub front_length : {T : Type 0} (all seen more : List T) → all ≡ seen ++ more → length seen ≤ length all
 front_length all seen more e = let d : length all ≡ length seen + length more = ap length e ∙ length-append seen more in omega arith
 
 -- a stop that says TooDeep has its witness
@@ -284,7 +284,7 @@ or_true true = refl
 or_true false = refl
 
 -- a bound of what a value goes on with, or another that may stand behind it where it is empty
-ends_both : {T : Type 0} (starts : T → Bool) (a b c d e : Bool) → (a ≡ true → c ≡ true) → (b ≡ true → d ≡ true) → (ys : List T) → begins starts e ys ≡ true →
+pub ends_both : {T : Type 0} (starts : T → Bool) (a b c d e : Bool) → (a ≡ true → c ≡ true) → (b ≡ true → d ≡ true) → (ys : List T) → begins starts e ys ≡ true →
     (a || (is_empty ys && b)) ≡ true → (c || (e && d)) ≡ true
 ends_both starts true b c d e h k ys s r = rw (h refl) refl
 ends_both starts false b c d e h k (y ∷ ys) s r = absurd cc
@@ -293,7 +293,7 @@ ends_both starts false b c d e h k [] s r =
     rw (s, last) (or_true c)
 
 -- what begins one list, or the next where that is empty
-begins_both : {T : Type 0} (p q : T → Bool) (a b : Bool) (xs ys : List T) → begins p a xs ≡ true → begins q b ys ≡ true → begins (λ t. p t || (a && q t)) (a && b) (xs ++ ys) ≡ true
+pub begins_both : {T : Type 0} (p q : T → Bool) (a b : Bool) (xs ys : List T) → begins p a xs ≡ true → begins q b ys ≡ true → begins (λ t. p t || (a && q t)) (a && b) (xs ++ ys) ≡ true
 begins_both p q a b (x ∷ xs) ys h k = rw h refl
 begins_both p q a b [] [] h k = rw (h, k) refl
 begins_both p q a b [] (y ∷ ys) h k = rw (h, k) (or_true (p y))
@@ -681,11 +681,11 @@ module _ {T A B : Type 0} {f : Grammar T A} {g : Grammar T B} {to : A → B} (ma
 -- ---- one rule or another
 
 -- a list that begins as the one does, or as the other, begins as one of them does
-begins_left : {T : Type 0} (p q : T → Bool) (a b : Bool) (xs : List T) → a ≡ false → begins p a xs ≡ true → begins (λ t. p t || q t) b xs ≡ true
+pub begins_left : {T : Type 0} (p q : T → Bool) (a b : Bool) (xs : List T) → a ≡ false → begins p a xs ≡ true → begins (λ t. p t || q t) b xs ≡ true
 begins_left p q a b [] h k = absurd cc
 begins_left p q a b (x ∷ xs) h k = or_left (p x) (q x) k
 
-begins_right : {T : Type 0} (p q : T → Bool) (b : Bool) (xs : List T) → begins q b xs ≡ true → begins (λ t. p t || q t) b xs ≡ true
+pub begins_right : {T : Type 0} (p q : T → Bool) (b : Bool) (xs : List T) → begins q b xs ≡ true → begins (λ t. p t || q t) b xs ≡ true
 begins_right p q b [] k = k
 begins_right p q b (x ∷ xs) k = or_right (p x) (q x) k
 

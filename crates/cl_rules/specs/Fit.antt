@@ -1,0 +1,133 @@
+-- When the next token always tells how to go on: a test that computes, of a whole grammar. (Aho, Sethi and Ullman, "Compilers", 4.4: LL(1)
+-- grammars; that of two parts the first goes on where both could, as at an `else`: this project.)
+use Rattle.std.specs.Prelude.{◌≡◌, ℕ, Bool, true, false, not, ◌&&◌, if◌then◌else◌, List, [], ◌∷◌, ◌++◌, Option, Some, None, is_some}
+use Rattle.cl_rules.specs.Rules.{clear, is_empty, Grammar}
+use Rattle.cl_rules.specs.Syntax.{Rule, Token, Nothing, Both, Either, Many, Counted, Symbol, Derivation, leaf, empty, pair, first, second, none, more, part, node}
+use Rattle.cl_rules.specs.Syntax.{tokens, nesting, reach, has, subset, apart, may_be_empty, starts, Language, opens, goes_on, derives}
+
+-- ---- a derivation by each rule
+
+-- of two derivations one after the other, if there are both
+abbrev pub paired : {T S : Type 0} {rules : S → Rule T S} {a b : Rule T S} → Option (Derivation rules a) → Option (Derivation rules b) → Option (Derivation rules (Both a b))
+paired (Some x) (Some y) = Some (pair x y)
+paired (Some x) None = None
+paired None y = None
+
+-- the first that is there
+abbrev pub chosen : {T S : Type 0} {rules : S → Rule T S} {a b : Rule T S} → Option (Derivation rules a) → Option (Derivation rules b) → Option (Derivation rules (Either a b))
+chosen (Some x) y = Some (first x)
+chosen None (Some y) = Some (second y)
+chosen None None = None
+
+abbrev pub counted_one : {T S : Type 0} {rules : S → Rule T S} {a : Rule T S} → Option (Derivation rules a) → Option (Derivation rules (Counted a))
+counted_one (Some x) = Some (part x)
+counted_one None = None
+
+abbrev pub named_one : {T S : Type 0} {rules : S → Rule T S} (s : S) → Option (Derivation rules (rules s)) → Option (Derivation rules (Symbol s))
+named_one s (Some x) = Some (node s x)
+named_one s None = None
+
+-- a short derivation by the rule, with these for the symbols
+abbrev pub short : {T S : Type 0} (rules : S → Rule T S) → ((s : S) → Option (Derivation rules (rules s))) → (r : Rule T S) → Option (Derivation rules r)
+short rules of (Token classes sample) = Some (leaf sample)
+short rules of Nothing = Some empty
+short rules of (Both a b) = paired (short rules of a) (short rules of b)
+short rules of (Either a b) = chosen (short rules of a) (short rules of b)
+short rules of (Many a) = Some none
+short rules of (Counted a) = counted_one (short rules of a)
+short rules of (Symbol s) = named_one s (of s)
+
+-- a short derivation without a symbol, or with one
+abbrev pub sample_of : {T S : Type 0} (rules : S → Rule T S) (r : Rule T S) → Option (Derivation rules r)
+sample_of rules r = short rules (λ s. short rules (λ q. None) (rules s)) r
+
+-- a derivation without tokens
+abbrev pub blank : {T S : Type 0} (rules : S → Rule T S) (r : Rule T S) → Option (Derivation rules r)
+blank rules (Token classes sample) = None
+blank rules Nothing = Some empty
+blank rules (Both a b) = paired (blank rules a) (blank rules b)
+blank rules (Either a b) = chosen (blank rules a) (blank rules b)
+blank rules (Many a) = Some none
+blank rules (Counted a) = None
+blank rules (Symbol s) = None
+
+-- ---- what may stand behind a rule
+
+-- the classes of the tokens with which a derivation may go on, from those of the symbols
+abbrev pub ends : {T S : Type 0} → (S → List ℕ) → (S → List ℕ) → Rule T S → List ℕ
+ends firsts lasts (Token classes sample) = []
+ends firsts lasts Nothing = []
+ends firsts lasts (Both a b) = if may_be_empty b then ends firsts lasts b ++ ends firsts lasts a else ends firsts lasts b
+ends firsts lasts (Either a b) = ends firsts lasts a ++ (ends firsts lasts b ++ (if may_be_empty b then starts firsts a else []))
+ends firsts lasts (Many a) = ends firsts lasts a ++ starts firsts a
+ends firsts lasts (Counted a) = ends firsts lasts a
+ends firsts lasts (Symbol s) = lasts s
+
+-- ---- the test
+
+-- what it is tested with: a language, and the classes of the tokens with which each symbol may go on
+pub record Bounds (T S : Type 0) : Type 0 where
+  pub language : Language T S
+  pub lasts : S → List ℕ
+
+-- the token may stand behind a derivation by the rule and be read with it
+abbrev pub closes : {T S : Type 0} → Bounds T S → Rule T S → T → Bool
+closes b r t = has (ends b.language.firsts b.lasts r) (b.language.class_of t)
+
+-- the derivations by a rule as a grammar
+abbrev pub grammar : {T S : Type 0} (b : Bounds T S) (r : Rule T S) → Grammar T (Derivation b.language.rules r)
+grammar b r = record {
+  tokens = tokens;
+  member = derives b.language;
+  nesting = nesting;
+  reach = reach;
+  goes_on = goes_on b.language;
+  starts = opens b.language r;
+  may_be_empty = may_be_empty r;
+  ends = closes b r;
+}
+
+-- this derivation stands behind each by the rule a
+abbrev pub stands_behind : {T S : Type 0} (b : Bounds T S) (a : Rule T S) {r : Rule T S} → Option (Derivation b.language.rules r) → Bool
+stands_behind b a None = false
+stands_behind b a (Some y) = derives b.language y && clear (closes b a) (tokens y)
+
+-- this derivation has no tokens
+abbrev pub is_blank : {T S : Type 0} (b : Bounds T S) {r : Rule T S} → Option (Derivation b.language.rules r) → Bool
+is_blank b None = false
+is_blank b (Some y) = derives b.language y && is_empty (tokens y)
+
+-- what begins the rule c doesn't go on with a, where a may be empty
+abbrev pub empty_fits : {T S : Type 0} (b : Bounds T S) (a c : Rule T S) → Bool
+empty_fits b a c = if may_be_empty a then is_blank b (blank b.language.rules a) && apart (starts b.language.firsts c) (ends b.language.firsts b.lasts a) else true
+
+-- the next token tells how to go on
+abbrev pub fits : {T S : Type 0} (b : Bounds T S) → Rule T S → Bool
+fits b (Token classes sample) = true
+fits b Nothing = true
+fits b (Both a c) = fits b a && (fits b c && (stands_behind b a (sample_of b.language.rules c) && empty_fits b a c))
+fits b (Either a c) = fits b a && (fits b c && (not (may_be_empty a) && apart (starts b.language.firsts c) (starts b.language.firsts a)))
+fits b (Many a) = fits b a && not (may_be_empty a)
+fits b (Counted a) = fits b a && not (may_be_empty a)
+fits b (Symbol s) = true
+
+-- outside counted parts the rule names no symbol
+abbrev pub closed : {T S : Type 0} → Rule T S → Bool
+closed (Token classes sample) = true
+closed Nothing = true
+closed (Both a b) = closed a && closed b
+closed (Either a b) = closed a && closed b
+closed (Many a) = closed a
+closed (Counted a) = true
+closed (Symbol s) = false
+
+-- and the tables are true of the symbol
+abbrev pub symbol_fits : {T S : Type 0} (b : Bounds T S) → S → Bool
+symbol_fits b s =
+    let r = b.language.rules s in
+    fits b r && (closed r && (not (may_be_empty r) && (subset (starts b.language.firsts r) (b.language.firsts s)
+    && (subset (b.language.firsts s) (starts (λ q. []) r) && subset (ends b.language.firsts b.lasts r) (b.lasts s)))))
+
+-- the grammar fits
+abbrev pub Fits : {T S : Type 0} → Bounds T S → Type 0
+Fits {S = S} b = (s : S) → symbol_fits b s ≡ true
