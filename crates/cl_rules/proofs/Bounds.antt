@@ -6,7 +6,7 @@ use Rattle.std.proofs.lemmas.Bool.{and_parts, and_from, both_ways, not-true, or_
 use Rattle.cl_rules.specs.Rules.{begins, clear, is_empty, one_deeper, IsGrammar, IsFlat}
 use Rattle.cl_rules.specs.Syntax.{Rule, Token, Nothing, Both, Either, Many, Counted, Symbol, Derivation, leaf, empty, pair, first, second, none, more, part, node}
 use Rattle.cl_rules.specs.Syntax.{tokens, nesting, reach, has, subset, apart, may_be_empty, starts, Language, opens, goes_on, derives}
-use Rattle.cl_rules.specs.Fit.{ends, Bounds, closes, grammar, stands_behind, is_blank, empty_fits, fits, closed, symbol_fits, Fits, sample_of, blank}
+use Rattle.cl_rules.specs.Fit.{ends, Bounds, closes, grammar, stands_behind, is_blank, empty_fits, fits, names_only, begins_only, lesser, symbol_fits, Fits, sample_of, blank}
 use Rattle.cl_rules.proofs.Laws.{begins_both, ends_both, begins_left, begins_right}
 
 -- ---- lists of classes
@@ -128,26 +128,34 @@ module _ {T S : Type 0} {rules : S → Rule T S} where
 module _ {T S : Type 0} (b : Bounds T S) (all_fit : Fits b) where
   -- what a symbol's test says
   pub symbol_parts : (s : S) →
-      (fits b (b.language.rules s) ≡ true) × (closed (b.language.rules s) ≡ true) × (may_be_empty (b.language.rules s) ≡ false)
+      (fits b (b.language.rules s) ≡ true) × (may_be_empty (b.language.rules s) ≡ false)
+      × (lesser b b.language.height s ≡ true)
+      × (names_only (lesser b (b.rank s)) (b.language.rules s) ≡ true)
+      × (begins_only (lesser b (b.rank s)) (b.language.rules s) ≡ true)
       × (subset (starts b.language.firsts (b.language.rules s)) (b.language.firsts s) ≡ true)
-      × (subset (b.language.firsts s) (starts (λ q. []) (b.language.rules s)) ≡ true)
+      × (subset (b.language.firsts s) (starts b.language.firsts (b.language.rules s)) ≡ true)
       × (subset (ends b.language.firsts b.lasts (b.language.rules s)) (b.lasts s) ≡ true)
   symbol_parts s =
       let r = b.language.rules s in
-      let p5 = subset (ends b.language.firsts b.lasts r) (b.lasts s) in
-      let p4 = subset (b.language.firsts s) (starts (λ q. []) r) in
-      let p3 = subset (starts b.language.firsts r) (b.language.firsts s) in
-      let one = and_parts (fits b r) (closed r && (not (may_be_empty r) && (p3 && (p4 && p5)))) (all_fit s) in
-      let two = and_parts (closed r) (not (may_be_empty r) && (p3 && (p4 && p5))) one.1 in
-      let three = and_parts (not (may_be_empty r)) (p3 && (p4 && p5)) two.1 in
-      let four = and_parts p3 (p4 && p5) three.1 in
-      let five = and_parts p4 p5 four.1 in
-      (one.0, two.0, not-true (may_be_empty r) three.0, four.0, five.0, five.1)
+      let p7 = subset (ends b.language.firsts b.lasts r) (b.lasts s) in
+      let p6 = subset (b.language.firsts s) (starts b.language.firsts r) in
+      let p5 = subset (starts b.language.firsts r) (b.language.firsts s) in
+      let p4 = begins_only (lesser b (b.rank s)) r in
+      let p3 = names_only (lesser b (b.rank s)) r in
+      let p2 = lesser b b.language.height s in
+      let one = and_parts (fits b r) (not (may_be_empty r) && (p2 && (p3 && (p4 && (p5 && (p6 && p7)))))) (all_fit s) in
+      let two = and_parts (not (may_be_empty r)) (p2 && (p3 && (p4 && (p5 && (p6 && p7))))) one.1 in
+      let three = and_parts p2 (p3 && (p4 && (p5 && (p6 && p7)))) two.1 in
+      let four = and_parts p3 (p4 && (p5 && (p6 && p7))) three.1 in
+      let five = and_parts p4 (p5 && (p6 && p7)) four.1 in
+      let six = and_parts p5 (p6 && p7) five.1 in
+      let seven = and_parts p6 p7 six.1 in
+      (one.0, not-true (may_be_empty r) two.0, three.0, four.0, five.0, six.0, seven.0, seven.1)
 
   pub both_fits : (r c : Rule T S) → fits b (Both r c) ≡ true →
-      (fits b r ≡ true) × (fits b c ≡ true) × (stands_behind b r (sample_of b.language.rules c) ≡ true) × (empty_fits b r c ≡ true)
+      (fits b r ≡ true) × (fits b c ≡ true) × (stands_behind b r (sample_of b.language c) ≡ true) × (empty_fits b r c ≡ true)
   both_fits r c h =
-      let behind = stands_behind b r (sample_of b.language.rules c) in
+      let behind = stands_behind b r (sample_of b.language c) in
       let one = and_parts (fits b r) (fits b c && (behind && empty_fits b r c)) h in
       let two = and_parts (fits b c) (behind && empty_fits b r c) one.1 in
       let three = and_parts behind (empty_fits b r c) two.1 in
@@ -227,9 +235,9 @@ module _ {T S : Type 0} (b : Bounds T S) (all_fit : Fits b) where
   derivation_starts (part {a = r} x) f h = let fit = many_fits r f in begins_same (opens b.language r) (may_be_empty r) false (tokens x) fit.1 (derivation_starts x fit.0 h)
   derivation_starts (node s x) f h =
       let symbol = symbol_parts s in
-      begins_same (opens b.language (Symbol s)) (may_be_empty (b.language.rules s)) false (tokens x) symbol.2
+      begins_same (opens b.language (Symbol s)) (may_be_empty (b.language.rules s)) false (tokens x) symbol.1
       (begins_wider (opens b.language (b.language.rules s)) (opens b.language (Symbol s)) (may_be_empty (b.language.rules s)) (tokens x)
-          (λ t. has_subset (starts b.language.firsts (b.language.rules s)) (b.language.firsts s) (b.language.class_of t) symbol.3)
+          (λ t. has_subset (starts b.language.firsts (b.language.rules s)) (b.language.firsts s) (b.language.class_of t) symbol.5)
           (derivation_starts x symbol.0 h))
 
   closes_both : (r c : Rule T S) (t : T) → (closes b c t || (may_be_empty c && closes b r t)) ≡ true → closes b (Both r c) t ≡ true
@@ -294,7 +302,7 @@ module _ {T S : Type 0} (b : Bounds T S) (all_fit : Fits b) where
   derivation_ends (part {a = r} x) t f h g = derivation_ends x t (many_fits r f).0 h g
   derivation_ends (node s x) t f h g =
       let symbol = symbol_parts s in
-      has_subset (ends b.language.firsts b.lasts (b.language.rules s)) (b.lasts s) (b.language.class_of t) symbol.5 (derivation_ends x t symbol.0 h g)
+      has_subset (ends b.language.firsts b.lasts (b.language.rules s)) (b.lasts s) (b.language.class_of t) symbol.7 (derivation_ends x t symbol.0 h g)
 
   -- all its tokens reach all its nesting
   pub derivation_reach : {r : Rule T S} (d : Derivation b.language.rules r) (k : ℕ) → fits b r ≡ true → derives b.language d ≡ true → length (tokens d) ≤ k →

@@ -12,23 +12,23 @@ use Rattle.cl_rules.specs.Rules.{separated_grammar, counted, one_deeper, counted
 
 -- ---- what a reader returns
 
-abbrev ok : {T A : Type 0} → A × List T → Result (A × List T) (Kind × List T)
+abbrev pub ok : {T A : Type 0} → A × List T → Result (A × List T) (Kind × List T)
 ok y = Ok y
 
-abbrev err : (T A : Type 0) → Kind × List T → Result (A × List T) (Kind × List T)
+abbrev pub err : (T A : Type 0) → Kind × List T → Result (A × List T) (Kind × List T)
 err T A bad = Err bad
 
-ok_is : {T A : Type 0} (x y : A) (r s : List T) → ok (x, r) ≡ ok (y, s) → (x ≡ y) × (r ≡ s)
+pub ok_is : {T A : Type 0} (x y : A) (r s : List T) → ok (x, r) ≡ ok (y, s) → (x ≡ y) × (r ≡ s)
 ok_is {T} {A} x y r s e =
     let h : (x, r) ≡ (y, s) = cc in
     (ap (λ (z : A × List T). z.0) h, ap (λ (z : A × List T). z.1) h)
 
-err_is : (T A : Type 0) (k l : Kind) (r s : List T) → err T A (k, r) ≡ err T A (l, s) → (k ≡ l) × (r ≡ s)
+pub err_is : (T A : Type 0) (k l : Kind) (r s : List T) → err T A (k, r) ≡ err T A (l, s) → (k ≡ l) × (r ≡ s)
 err_is T A k l r s e =
     let h : (k, r) ≡ (l, s) = cc in
     (ap (λ (z : Kind × List T). z.0) h, ap (λ (z : Kind × List T). z.1) h)
 
-not_both : {T A : Type 0} (y : A × List T) (bad : Kind × List T) → ok y ≡ err T A bad → ⊥
+pub not_both : {T A : Type 0} (y : A × List T) (bad : Kind × List T) → ok y ≡ err T A bad → ⊥
 not_both y bad e = cc
 
 -- ---- the next token
@@ -114,15 +114,15 @@ if_deep : (kind : Kind) (P Q : Type 0) → (P → Q) → IfDeep kind P → IfDee
 if_deep Syntax P Q to h = tt
 if_deep TooDeep P Q to h = to h
 
-is_front : {T A : Type 0} (g : Grammar T A) (n : ℕ) (seen : List T) → Front g n seen → IsFront g n seen
+pub is_front : {T A : Type 0} (g : Grammar T A) (n : ℕ) (seen : List T) → Front g n seen → IsFront g n seen
 is_front g n [] front = tt
 is_front g n (t ∷ ts) front = front
 
 -- two ways to cut one list
-abbrev Cut : {T : Type 0} → List T → List T → List T → List T → Type 0
+abbrev pub Cut : {T : Type 0} → List T → List T → List T → List T → Type 0
 Cut {T} xs ys us vs = ((m : List T) × (xs ≡ us ++ m) × (vs ≡ m ++ ys)) ⊎ ((m : List T) × (us ≡ xs ++ m) × (ys ≡ m ++ vs))
 
-cut : {T : Type 0} (xs ys us vs : List T) → xs ++ ys ≡ us ++ vs → Cut xs ys us vs
+pub cut : {T : Type 0} (xs ys us vs : List T) → xs ++ ys ≡ us ++ vs → Cut xs ys us vs
 cut [] ys us vs e = inr (us, refl, e)
 cut (x ∷ xs) ys [] vs e = inl (x ∷ xs, refl, sym e)
 cut (x ∷ xs) ys (u ∷ us) vs e =

@@ -1,3 +1,4 @@
 pub mod Laws
 pub mod Bounds
 pub mod Reading
+pub mod Exact

@@ -1,14 +1,14 @@
 -- A grammar that fits is read rightly, at every nesting.
 use Rattle.std.proofs.Common.{◌≡◌, ◌+◌, ◌<◌, ◌≤◌, ℕ, zero, suc, max, Bool, true, false, not, cond, List, [], ◌∷◌, ◌++◌, length, Option, Some, None, is_some}
 use Rattle.std.proofs.Common.{refl, sym, ap, subst, ◌∙◌, append_assoc, inl, inr, arith}
-use Rattle.std.specs.Prelude.{◌⊎◌, ◌&&◌, ◌||◌}
+use Rattle.std.specs.Prelude.{◌⊎◌, ◌&&◌, ◌||◌, nat_lt}
 use Rattle.std.proofs.lemmas.Bool.{and_parts, and_from, both_ways, not-true, or_cases}
 use Rattle.cl_rules.specs.Rules.{Grammar, begins, clear, is_empty, Parser, IsRule, IsGrammar, Companion, IsMade, IsSame, IsTold, IsTestOf, Opens, IsBelow}
 use Rattle.cl_rules.specs.Rules.{one, one_grammar, nothing, nothing_grammar, both, both_grammar, either, either_grammar, many, many_grammar, many_tokens, many_member, many_nesting, many_reach, many_goes_on, counted, counted_grammar, made}
 use Rattle.cl_rules.specs.Syntax.{Rule, Token, Nothing, Both, Either, Many, Counted, Symbol, Derivation, leaf, empty, pair, first, second, none, more, part, node}
 use Rattle.cl_rules.specs.Syntax.{tokens, nesting, reach, has, subset, apart, may_be_empty, starts, Language, opens, goes_on, derives}
-use Rattle.cl_rules.specs.Syntax.{Readers, accept, to_empty, to_pair, to_choice, to_row, next_below, read, nobody, levels, reader}
-use Rattle.cl_rules.specs.Fit.{ends, Bounds, closes, grammar, stands_behind, is_blank, empty_fits, fits, closed, Fits, sample_of, blank}
+use Rattle.cl_rules.specs.Syntax.{Readers, accept, to_empty, to_pair, to_choice, to_row, next_below, read, at_height, levels, reader}
+use Rattle.cl_rules.specs.Fit.{ends, Bounds, closes, grammar, stands_behind, is_blank, empty_fits, fits, names_only, begins_only, lesser, Fits, sample_of, blank}
 use Rattle.cl_rules.proofs.Laws.{one_is, nothing_is, both_is, member_both, made_is, either_is, many_is, counted_is, companion, ends_clear}
 use Rattle.cl_rules.proofs.Bounds.{has_left, has_right, has_parts, has_subset, has_apart, symbol_parts, both_fits, either_fits, many_fits, pair_parts, derivation_ends, grammar_laws}
 
@@ -36,14 +36,17 @@ empty_list : {T : Type 0} (ts : List T) → is_empty ts ≡ true → ts ≡ []
 empty_list [] h = refl
 empty_list (t ∷ ts) h = absurd cc
 
-open_right : (a c : Bool) → c ≡ false → (a && c) ≡ false
-open_right true c e = e
-open_right false c e = refl
+none_lesser : (i : ℕ) → nat_lt i 0 ≡ true → ⊥
+none_lesser i h = grind (arith, h)
+
+-- what is below one of those below k + 1 is below k
+lesser_still : (i j k : ℕ) → nat_lt i j ≡ true → nat_lt j (suc k) ≡ true → nat_lt i k ≡ true
+lesser_still i j k h l = grind (arith, h, l)
 
 module _ {T S : Type 0} (b : Bounds T S) (all_fit : Fits b) where
   -- the sample stands behind each
   pub companion_of : (r c : Rule T S) → fits b (Both r c) ≡ true → Companion (grammar b r) (grammar b c)
-  companion_of r c f = let fit = both_fits b all_fit r c f in by (sample_of b.language.rules c) fit.0 fit.2
+  companion_of r c f = let fit = both_fits b all_fit r c f in by (sample_of b.language c) fit.0 fit.2
     where
       by : (o : Option (Derivation b.language.rules c)) → fits b r ≡ true → stands_behind b r o ≡ true → Companion (grammar b r) (grammar b c)
       by None fit h = absurd cc
@@ -85,71 +88,80 @@ module _ {T S : Type 0} (b : Bounds T S) (all_fit : Fits b) where
             split = ap (λ (l : List T). l ++ tokens o.value) no_tokens ∙ o.split;
           }
 
-  module _ (firsts : S → List ℕ) (known : (s : S) (k : ℕ) → has (firsts s) k ≡ true → has (b.language.firsts s) k ≡ true)
-      (open_symbol : (s : S) (t : T) → has (firsts s) (b.language.class_of t) ≡ true → Opens (grammar b (b.language.rules s)) t) where
-    starts_known : (r : Rule T S) (k : ℕ) → has (starts firsts r) k ≡ true → has (starts b.language.firsts r) k ≡ true
-    starts_known (Token classes sample) k h = h
-    starts_known Nothing k h = h
-    starts_known (Both r c) k h = by (may_be_empty r) (starts_known r k) (starts_known c k) h
+  -- of these symbols it is known
+  module _ (these : S → Bool) (open_symbol : (s : S) → these s ≡ true → (t : T) → has (b.language.firsts s) (b.language.class_of t) ≡ true → Opens (grammar b (b.language.rules s)) t) where
+    rule_opens : (r : Rule T S) → fits b r ≡ true → begins_only these r ≡ true → (t : T) → opens b.language r t ≡ true → Opens (grammar b r) t
+    rule_opens (Token classes sample) f n t h = record { value = leaf t; member = h; others = []; split = refl }
+    rule_opens Nothing f n t h = absurd cc
+    rule_opens (Both r c) f n t h =
+        let rest = cond (may_be_empty r) (begins_only these c) true in
+        let only = and_parts (begins_only these r) rest n in
+        by (may_be_empty r) refl (rule_opens r (both_fits b all_fit r c f).0 only.0 t) (λ m. rule_opens c (both_fits b all_fit r c f).1 m t) only.1 h
       where
-        by : (e : Bool) → (has (starts firsts r) k ≡ true → has (starts b.language.firsts r) k ≡ true) →
-            (has (starts firsts c) k ≡ true → has (starts b.language.firsts c) k ≡ true) → has (cond e (starts firsts r ++ starts firsts c) (starts firsts r)) k ≡ true →
-            has (cond e (starts b.language.firsts r ++ starts b.language.firsts c) (starts b.language.firsts r)) k ≡ true
-        by true one two h =
-            elim (has_parts (starts firsts r) (starts firsts c) k h) [
-              | inl left ↦ has_left (starts b.language.firsts r) (starts b.language.firsts c) k (one left)
-              | inr right ↦ has_right (starts b.language.firsts r) (starts b.language.firsts c) k (two right)
-            ]
-        by false one two h = one h
-    starts_known (Either r c) k h =
-        elim (has_parts (starts firsts r) (starts firsts c) k h) [
-          | inl left ↦ has_left (starts b.language.firsts r) (starts b.language.firsts c) k (starts_known r k left)
-          | inr right ↦ has_right (starts b.language.firsts r) (starts b.language.firsts c) k (starts_known c k right)
-        ]
-    starts_known (Many r) k h = starts_known r k h
-    starts_known (Counted r) k h = starts_known r k h
-    starts_known (Symbol s) k h = known s k h
-
-    rule_opens : (r : Rule T S) → fits b r ≡ true → (t : T) → has (starts firsts r) (b.language.class_of t) ≡ true → Opens (grammar b r) t
-    rule_opens (Token classes sample) f t h = record { value = leaf t; member = h; others = []; split = refl }
-    rule_opens Nothing f t h = absurd cc
-    rule_opens (Both r c) f t h = by (may_be_empty r) refl (rule_opens r (both_fits b all_fit r c f).0 t) (rule_opens c (both_fits b all_fit r c f).1 t) h
-      where
-        by : (e : Bool) → may_be_empty r ≡ e → (has (starts firsts r) (b.language.class_of t) ≡ true → Opens (grammar b r) t) →
-            (has (starts firsts c) (b.language.class_of t) ≡ true → Opens (grammar b c) t) → has (cond e (starts firsts r ++ starts firsts c) (starts firsts r)) (b.language.class_of t) ≡ true → Opens (grammar b (Both r c)) t
-        by true e one two h =
-            elim (has_parts (starts firsts r) (starts firsts c) (b.language.class_of t) h) [
+        by : (e : Bool) → may_be_empty r ≡ e → (opens b.language r t ≡ true → Opens (grammar b r) t) →
+            (begins_only these c ≡ true → opens b.language c t ≡ true → Opens (grammar b c) t) → cond e (begins_only these c) true ≡ true →
+            has (cond e (starts b.language.firsts r ++ starts b.language.firsts c) (starts b.language.firsts r)) (b.language.class_of t) ≡ true → Opens (grammar b (Both r c)) t
+        by true e one two m h =
+            elim (has_parts (starts b.language.firsts r) (starts b.language.firsts c) (b.language.class_of t) h) [
               | inl left ↦ open_pair r c f t (one left)
-              | inr right ↦ open_behind r c f e t (starts_known c (b.language.class_of t) right) (two right)
+              | inr right ↦ open_behind r c f e t right (two m right)
             ]
-        by false e one two h = open_pair r c f t (one h)
-    rule_opens (Either r c) f t h =
+        by false e one two m h = open_pair r c f t (one h)
+    rule_opens (Either r c) f n t h =
         let fit = either_fits b all_fit r c f in
-        elim (has_parts (starts firsts r) (starts firsts c) (b.language.class_of t) h) [
-          | inl left ↦ (let o = rule_opens r fit.0 t left in record { value = first o.value; member = o.member; others = o.others; split = o.split })
-          | inr right ↦ (let o = rule_opens c fit.1 t right in record { value = second o.value; member = o.member; others = o.others; split = o.split })
+        let only = and_parts (begins_only these r) (begins_only these c) n in
+        elim (has_parts (starts b.language.firsts r) (starts b.language.firsts c) (b.language.class_of t) h) [
+          | inl left ↦ (let o = rule_opens r fit.0 only.0 t left in record { value = first o.value; member = o.member; others = o.others; split = o.split })
+          | inr right ↦ (let o = rule_opens c fit.1 only.1 t right in record { value = second o.value; member = o.member; others = o.others; split = o.split })
         ]
-    rule_opens (Many r) f t h =
-        let o = rule_opens r (many_fits b all_fit r f).0 t h in
+    rule_opens (Many r) f n t h =
+        let o = rule_opens r (many_fits b all_fit r f).0 n t h in
         record {
           value = more o.value none;
           member = and_from (derives b.language o.value) true o.member refl;
           others = o.others ++ [];
           split = ap (λ (l : List T). l ++ []) o.split ∙ append_assoc (t ∷ []) o.others [];
         }
-    rule_opens (Counted r) f t h =
-        let o = rule_opens r (many_fits b all_fit r f).0 t h in
+    rule_opens (Counted r) f n t h =
+        let o = rule_opens r (many_fits b all_fit r f).0 n t h in
         record { value = part o.value; member = o.member; others = o.others; split = o.split }
-    rule_opens (Symbol s) f t h = let o = open_symbol s t h in record { value = node s o.value; member = o.member; others = o.others; split = o.split }
+    rule_opens (Symbol s) f n t h = let o = open_symbol s n t h in record { value = node s o.value; member = o.member; others = o.others; split = o.split }
+
+  -- by rank
+  ranked_opens : (k : ℕ) (s : S) → lesser b k s ≡ true → (t : T) → has (b.language.firsts s) (b.language.class_of t) ≡ true → Opens (grammar b (b.language.rules s)) t
+  ranked_opens zero s l t h = absurd (none_lesser (b.rank s) l)
+  ranked_opens (suc k) s l t h =
+      let symbol = symbol_parts b all_fit s in
+      rule_opens (lesser b (b.rank s)) (λ q m. ranked_opens k q (lesser_still (b.rank q) (b.rank s) k m l)) (b.language.rules s) symbol.0 symbol.4 t
+      (has_subset (b.language.firsts s) (starts b.language.firsts (b.language.rules s)) (b.language.class_of t) symbol.6 h)
 
   symbol_opens : (s : S) (t : T) → has (b.language.firsts s) (b.language.class_of t) ≡ true → Opens (grammar b (b.language.rules s)) t
-  symbol_opens s t h =
-      let symbol = symbol_parts b all_fit s in
-      rule_opens (λ q. []) (λ q k z. absurd cc) (λ q u z. absurd cc) (b.language.rules s) symbol.0 t
-      (has_subset (b.language.firsts s) (starts (λ q. []) (b.language.rules s)) (b.language.class_of t) symbol.4 h)
+  symbol_opens s t h = ranked_opens b.language.height s (symbol_parts b all_fit s).2 t h
+
+  begins_any : (r : Rule T S) → begins_only (λ s. true) r ≡ true
+  begins_any (Token classes sample) = refl
+  begins_any Nothing = refl
+  begins_any (Both r c) = and_from (begins_only (λ s. true) r) (cond (may_be_empty r) (begins_only (λ s. true) c) true) (begins_any r) (by (may_be_empty r) (begins_any c))
+    where
+      by : (e : Bool) → begins_only (λ s. true) c ≡ true → cond e (begins_only (λ s. true) c) true ≡ true
+      by true h = h
+      by false h = refl
+  begins_any (Either r c) = and_from (begins_only (λ s. true) r) (begins_only (λ s. true) c) (begins_any r) (begins_any c)
+  begins_any (Many r) = begins_any r
+  begins_any (Counted r) = begins_any r
+  begins_any (Symbol s) = refl
+
+  names_any : (r : Rule T S) → names_only (λ s. true) r ≡ true
+  names_any (Token classes sample) = refl
+  names_any Nothing = refl
+  names_any (Both r c) = and_from (names_only (λ s. true) r) (names_only (λ s. true) c) (names_any r) (names_any c)
+  names_any (Either r c) = and_from (names_only (λ s. true) r) (names_only (λ s. true) c) (names_any r) (names_any c)
+  names_any (Many r) = names_any r
+  names_any (Counted r) = refl
+  names_any (Symbol s) = refl
 
   pub opened : (r : Rule T S) → fits b r ≡ true → (t : T) → opens b.language r t ≡ true → Opens (grammar b r) t
-  opened r f t h = rule_opens b.language.firsts (λ s k z. z) symbol_opens r f t h
+  opened r f t h = rule_opens (λ s. true) (λ s k. symbol_opens s) r f (begins_any r) t h
 
   -- ---- what a rule reads is made a derivation by it
 
@@ -289,48 +301,54 @@ module _ {T S : Type 0} (b : Bounds T S) (all_fit : Fits b) where
   level_below (suc n) [] good = absurd good
   level_below (suc n) (here ∷ below) good = good
 
-  rule_is : (r : Rule T S) → fits b r ≡ true → (n : ℕ) (here : Readers b.language.rules) (below : List (Readers b.language.rules)) →
-      (closed r ≡ false → AreReaders n here) → AreLevels n below → IsRule (grammar b r) n (read b.language r here below)
+  rule_is : (r : Rule T S) → fits b r ≡ true → (these : S → Bool) → names_only these r ≡ true → (n : ℕ) (here : Readers b.language.rules)
+      (below : List (Readers b.language.rules)) → ((s : S) → these s ≡ true → IsRule (grammar b (b.language.rules s)) n (here s)) → AreLevels n below →
+      IsRule (grammar b r) n (read b.language r here below)
   unfolding AreReaders IsLevel
-  rule_is (Token classes sample) f n here below good lower =
+  rule_is (Token classes sample) f these m n here below good lower =
       made_is (leaf_made classes sample) (grammar_laws b all_fit (Token classes sample) f)
       (one_is (accept b.language.class_of classes) (λ t. t) (accepted b.language.class_of classes) (λ x y e. e) n)
-  rule_is Nothing f n here below good lower = made_is empty_made (grammar_laws b all_fit Nothing f) (nothing_is T n)
-  rule_is (Both r c) f n here below good lower =
+  rule_is Nothing f these m n here below good lower = made_is empty_made (grammar_laws b all_fit Nothing f) (nothing_is T n)
+  rule_is (Both r c) f these m n here below good lower =
       let fit = both_fits b all_fit r c f in
+      let only = and_parts (names_only these r) (names_only these c) m in
       made_is (pair_made r c) (grammar_laws b all_fit (Both r c) f)
-      (both_is (companion_of r c f) (rule_is r fit.0 n here below (λ e. good (ap (λ (d : Bool). d && closed c) e)) lower)
-          (rule_is c fit.1 n here below (λ e. good (open_right (closed r) (closed c) e)) lower))
-  rule_is (Either r c) f n here below good lower =
+      (both_is (companion_of r c f) (rule_is r fit.0 these only.0 n here below good lower) (rule_is c fit.1 these only.1 n here below good lower))
+  rule_is (Either r c) f these m n here below good lower =
       let fit = either_fits b all_fit r c f in
+      let only = and_parts (names_only these r) (names_only these c) m in
       made_is (choice_made r c) (grammar_laws b all_fit (Either r c) f)
       (either_is (record { filled = fit.2; first = λ t h. h; second = λ t h. has_apart (starts b.language.firsts c) (starts b.language.firsts r) (b.language.class_of t) fit.3 h })
-          (rule_is r fit.0 n here below (λ e. good (ap (λ (d : Bool). d && closed c) e)) lower)
-          (rule_is c fit.1 n here below (λ e. good (open_right (closed r) (closed c) e)) lower))
-  rule_is (Many r) f n here below good lower =
+          (rule_is r fit.0 these only.0 n here below good lower) (rule_is c fit.1 these only.1 n here below good lower))
+  rule_is (Many r) f these m n here below good lower =
       let fit = many_fits b all_fit r f in
       made_is (row_made r) (grammar_laws b all_fit (Many r) f)
-      (many_is (record { filled = fit.1; first = λ t h. h }) (rule_is r fit.0 n here below good lower))
-  rule_is (Counted r) f n here below good lower =
+      (many_is (record { filled = fit.1; first = λ t h. h }) (rule_is r fit.0 these m n here below good lower))
+  rule_is (Counted r) f these m n here below good lower =
       let fit = many_fits b all_fit r f in
       made_is (part_made r) (grammar_laws b all_fit (Counted r) f)
       (counted_is (record { filled = fit.1; first = λ t h. h }) (opened r fit.0) (grammar_laws b all_fit r fit.0) IsLevel n (next_below below) (level_below n below lower)
-          (λ m level is. rule_is r fit.0 m level.0 level.1 (λ e. is.0) is.1))
-  rule_is (Symbol s) f n here below good lower = made_is (node_made s) (grammar_laws b all_fit (Symbol s) f) (good refl s)
+          (λ m level is. rule_is r fit.0 (λ s. true) (names_any r) m level.0 level.1 (λ s k. is.0 s) is.1))
+  rule_is (Symbol s) f these m n here below good lower = made_is (node_made s) (grammar_laws b all_fit (Symbol s) f) (good s m)
+
+  -- a symbol of lesser rank is read rightly at this height
+  height_is : (n : ℕ) (below : List (Readers b.language.rules)) → AreLevels n below → (k : ℕ) (s : S) → lesser b k s ≡ true →
+      IsRule (grammar b (b.language.rules s)) n (at_height b.language k below s)
+  height_is n below lower zero s l = absurd (none_lesser (b.rank s) l)
+  height_is n below lower (suc k) s l =
+      let symbol = symbol_parts b all_fit s in
+      rule_is (b.language.rules s) symbol.0 (lesser b (b.rank s)) symbol.3 n (at_height b.language k below) below
+      (λ q m. height_is n below lower k q (lesser_still (b.rank q) (b.rank s) k m l)) lower
 
   levels_are : (n : ℕ) → AreLevels n (levels b.language n)
   unfolding AreReaders AreLevels
   levels_are zero = tt
   levels_are (suc n) = (
-    λ s.
-        (let symbol = symbol_parts b all_fit s in
-        rule_is (b.language.rules s) symbol.0 n (nobody b.language.rules) (levels b.language n) (λ e. absurd (both_ways (closed (b.language.rules s)) e symbol.1)) (levels_are n)),
+    λ s. height_is n (levels b.language n) (levels_are n) b.language.height s (symbol_parts b all_fit s).2,
     levels_are n,
   )
 
   -- a symbol's derivations are read rightly, at every nesting
   pub symbol_is : (n : ℕ) (s : S) → IsRule (grammar b (b.language.rules s)) n (reader b.language n s)
-  unfolding reader AreReaders
-  symbol_is n s =
-      let symbol = symbol_parts b all_fit s in
-      rule_is (b.language.rules s) symbol.0 n (nobody b.language.rules) (levels b.language n) (λ e. absurd (both_ways (closed (b.language.rules s)) e symbol.1)) (levels_are n)
+  unfolding reader
+  symbol_is n s = height_is n (levels b.language n) (levels_are n) b.language.height s (symbol_parts b all_fit s).2

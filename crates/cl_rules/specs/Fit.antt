@@ -1,6 +1,6 @@
 -- When the next token always tells how to go on: a test that computes, of a whole grammar. (Aho, Sethi and Ullman, "Compilers", 4.4: LL(1)
 -- grammars; that of two parts the first goes on where both could, as at an `else`: this project.)
-use Rattle.std.specs.Prelude.{◌≡◌, ℕ, Bool, true, false, not, ◌&&◌, if◌then◌else◌, List, [], ◌∷◌, ◌++◌, Option, Some, None, is_some}
+use Rattle.std.specs.Prelude.{◌≡◌, ℕ, Bool, true, false, not, ◌&&◌, if◌then◌else◌, nat_lt, zero, suc, List, [], ◌∷◌, ◌++◌, Option, Some, None, is_some}
 use Rattle.cl_rules.specs.Rules.{clear, is_empty, Grammar}
 use Rattle.cl_rules.specs.Syntax.{Rule, Token, Nothing, Both, Either, Many, Counted, Symbol, Derivation, leaf, empty, pair, first, second, none, more, part, node}
 use Rattle.cl_rules.specs.Syntax.{tokens, nesting, reach, has, subset, apart, may_be_empty, starts, Language, opens, goes_on, derives}
@@ -13,11 +13,15 @@ paired (Some x) (Some y) = Some (pair x y)
 paired (Some x) None = None
 paired None y = None
 
--- the first that is there
-abbrev pub chosen : {T S : Type 0} {rules : S → Rule T S} {a b : Rule T S} → Option (Derivation rules a) → Option (Derivation rules b) → Option (Derivation rules (Either a b))
+abbrev pub second_one : {T S : Type 0} {rules : S → Rule T S} {a b : Rule T S} → Option (Derivation rules b) → Option (Derivation rules (Either a b))
+second_one (Some y) = Some (second y)
+second_one None = None
+
+-- the first that is there; the other isn't computed before it is wanted
+abbrev pub chosen : {T S : Type 0} {rules : S → Rule T S} {a b : Rule T S} → Option (Derivation rules a) → (Unit {0} → Option (Derivation rules b)) →
+    Option (Derivation rules (Either a b))
 chosen (Some x) y = Some (first x)
-chosen None (Some y) = Some (second y)
-chosen None None = None
+chosen None y = second_one (y tt)
 
 abbrev pub counted_one : {T S : Type 0} {rules : S → Rule T S} {a : Rule T S} → Option (Derivation rules a) → Option (Derivation rules (Counted a))
 counted_one (Some x) = Some (part x)
@@ -32,21 +36,26 @@ abbrev pub short : {T S : Type 0} (rules : S → Rule T S) → ((s : S) → Opti
 short rules of (Token classes sample) = Some (leaf sample)
 short rules of Nothing = Some empty
 short rules of (Both a b) = paired (short rules of a) (short rules of b)
-short rules of (Either a b) = chosen (short rules of a) (short rules of b)
+short rules of (Either a b) = chosen (short rules of a) (λ u. short rules of b)
 short rules of (Many a) = Some none
 short rules of (Counted a) = counted_one (short rules of a)
 short rules of (Symbol s) = named_one s (of s)
 
--- a short derivation without a symbol, or with one
-abbrev pub sample_of : {T S : Type 0} (rules : S → Rule T S) (r : Rule T S) → Option (Derivation rules r)
-sample_of rules r = short rules (λ s. short rules (λ q. None) (rules s)) r
+-- a short derivation by a symbol's rule, over so many symbols
+abbrev pub short_symbol : {T S : Type 0} (rules : S → Rule T S) → ℕ → (s : S) → Option (Derivation rules (rules s))
+short_symbol rules zero s = None
+short_symbol rules (suc k) s = short rules (short_symbol rules k) (rules s)
+
+-- a short derivation by the rule
+abbrev pub sample_of : {T S : Type 0} (l : Language T S) (r : Rule T S) → Option (Derivation l.rules r)
+sample_of l r = short l.rules (short_symbol l.rules (suc l.height)) r
 
 -- a derivation without tokens
 abbrev pub blank : {T S : Type 0} (rules : S → Rule T S) (r : Rule T S) → Option (Derivation rules r)
 blank rules (Token classes sample) = None
 blank rules Nothing = Some empty
 blank rules (Both a b) = paired (blank rules a) (blank rules b)
-blank rules (Either a b) = chosen (blank rules a) (blank rules b)
+blank rules (Either a b) = chosen (blank rules a) (λ u. blank rules b)
 blank rules (Many a) = Some none
 blank rules (Counted a) = None
 blank rules (Symbol s) = None
@@ -65,10 +74,12 @@ ends firsts lasts (Symbol s) = lasts s
 
 -- ---- the test
 
--- what it is tested with: a language, and the classes of the tokens with which each symbol may go on
+-- What it is tested with: a language, the classes of the tokens with which each symbol may go on, and a rank of the symbols. Outside
+-- counted parts, and at its beginning, a symbol's rule names those of lesser rank alone.
 pub record Bounds (T S : Type 0) : Type 0 where
   pub language : Language T S
   pub lasts : S → List ℕ
+  pub rank : S → ℕ
 
 -- the token may stand behind a derivation by the rule and be read with it
 abbrev pub closes : {T S : Type 0} → Bounds T S → Rule T S → T → Bool
@@ -105,28 +116,43 @@ empty_fits b a c = if may_be_empty a then is_blank b (blank b.language.rules a) 
 abbrev pub fits : {T S : Type 0} (b : Bounds T S) → Rule T S → Bool
 fits b (Token classes sample) = true
 fits b Nothing = true
-fits b (Both a c) = fits b a && (fits b c && (stands_behind b a (sample_of b.language.rules c) && empty_fits b a c))
+fits b (Both a c) = fits b a && (fits b c && (stands_behind b a (sample_of b.language c) && empty_fits b a c))
 fits b (Either a c) = fits b a && (fits b c && (not (may_be_empty a) && apart (starts b.language.firsts c) (starts b.language.firsts a)))
 fits b (Many a) = fits b a && not (may_be_empty a)
 fits b (Counted a) = fits b a && not (may_be_empty a)
 fits b (Symbol s) = true
 
--- outside counted parts the rule names no symbol
-abbrev pub closed : {T S : Type 0} → Rule T S → Bool
-closed (Token classes sample) = true
-closed Nothing = true
-closed (Both a b) = closed a && closed b
-closed (Either a b) = closed a && closed b
-closed (Many a) = closed a
-closed (Counted a) = true
-closed (Symbol s) = false
+-- outside counted parts the rule names only these symbols
+abbrev pub names_only : {T S : Type 0} → (S → Bool) → Rule T S → Bool
+names_only these (Token classes sample) = true
+names_only these Nothing = true
+names_only these (Both a b) = names_only these a && names_only these b
+names_only these (Either a b) = names_only these a && names_only these b
+names_only these (Many a) = names_only these a
+names_only these (Counted a) = true
+names_only these (Symbol s) = these s
+
+-- at its beginning it names only these symbols
+abbrev pub begins_only : {T S : Type 0} → (S → Bool) → Rule T S → Bool
+begins_only these (Token classes sample) = true
+begins_only these Nothing = true
+begins_only these (Both a b) = begins_only these a && (if may_be_empty a then begins_only these b else true)
+begins_only these (Either a b) = begins_only these a && begins_only these b
+begins_only these (Many a) = begins_only these a
+begins_only these (Counted a) = begins_only these a
+begins_only these (Symbol s) = these s
+
+-- those of rank below k
+abbrev pub lesser : {T S : Type 0} → Bounds T S → ℕ → S → Bool
+lesser b k s = nat_lt (b.rank s) k
 
 -- and the tables are true of the symbol
 abbrev pub symbol_fits : {T S : Type 0} (b : Bounds T S) → S → Bool
 symbol_fits b s =
     let r = b.language.rules s in
-    fits b r && (closed r && (not (may_be_empty r) && (subset (starts b.language.firsts r) (b.language.firsts s)
-    && (subset (b.language.firsts s) (starts (λ q. []) r) && subset (ends b.language.firsts b.lasts r) (b.lasts s)))))
+    fits b r && (not (may_be_empty r) && (lesser b b.language.height s && (names_only (lesser b (b.rank s)) r && (begins_only (lesser b (b.rank s)) r
+    && (subset (starts b.language.firsts r) (b.language.firsts s) && (subset (b.language.firsts s) (starts b.language.firsts r)
+    && subset (ends b.language.firsts b.lasts r) (b.lasts s)))))))
 
 -- the grammar fits
 abbrev pub Fits : {T S : Type 0} → Bounds T S → Type 0

@@ -109,11 +109,13 @@ starts firsts (Many a) = starts firsts a
 starts firsts (Counted a) = starts firsts a
 starts firsts (Symbol s) = firsts s
 
--- Tokens by class, the rules of the symbols, and with which classes of tokens a symbol begins.
+-- Tokens by class, the rules of the symbols, with which classes of tokens a symbol begins, and how many symbols may stand for one another
+-- before one stands for a token.
 pub record Language (T S : Type 0) : Type 0 where
   pub class_of : T → ℕ
   pub rules : S → Rule T S
   pub firsts : S → List ℕ
+  pub height : ℕ
 
 -- the token may begin a derivation by the rule
 abbrev pub opens : {T S : Type 0} → Language T S → Rule T S → T → Bool
@@ -184,15 +186,16 @@ read l (Many a) here below = made to_row (many (opens l a) (read l a here below)
 read l (Counted a) here below = made part (counted (opens l a) (λ r. read l a r.0 r.1) (next_below below))
 read l (Symbol s) here below = made (node s) (here s)
 
--- outside counted parts no rule names a symbol
-abbrev pub nobody : {T S : Type 0} (rules : S → Rule T S) → Readers rules
-nobody rules s ts = Err (Syntax, ts)
+-- a symbol is read by its rule, and outside counted parts that by those of fewer symbols
+abbrev pub at_height : {T S : Type 0} (l : Language T S) → ℕ → List (Readers l.rules) → Readers l.rules
+at_height l zero below s ts = Err (Syntax, ts)
+at_height l (suc k) below s ts = read l (l.rules s) (at_height l k below) below ts
 
 -- the readers of the nestings below n
 abbrev pub levels : {T S : Type 0} (l : Language T S) → ℕ → List (Readers l.rules)
 levels l zero = []
-levels l (suc n) = (λ s. read l (l.rules s) (nobody l.rules) (levels l n)) ∷ levels l n
+levels l (suc n) = at_height l l.height (levels l n) ∷ levels l n
 
 -- a symbol within a nesting of n
 unfoldable pub reader : {T S : Type 0} (l : Language T S) → ℕ → (s : S) → Parser T (Derivation l.rules (l.rules s))
-reader l n s = read l (l.rules s) (nobody l.rules) (levels l n)
+reader l n s = at_height l l.height (levels l n) s
