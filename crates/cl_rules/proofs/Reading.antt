@@ -7,7 +7,7 @@ use Rattle.cl_rules.specs.Rules.{Grammar, begins, clear, is_empty, Parser, IsRul
 use Rattle.cl_rules.specs.Rules.{one, one_grammar, nothing, nothing_grammar, both, both_grammar, either, either_grammar, many, many_grammar, many_tokens, many_member, many_nesting, many_reach, many_goes_on, counted, counted_grammar, made}
 use Rattle.cl_rules.specs.Syntax.{Rule, Token, Nothing, Both, Either, Many, Counted, Symbol, Derivation, leaf, empty, pair, first, second, none, more, part, node}
 use Rattle.cl_rules.specs.Syntax.{tokens, nesting, reach, has, subset, apart, may_be_empty, starts, Language, opens, goes_on, derives}
-use Rattle.cl_rules.specs.Syntax.{Readers, accept, to_empty, to_pair, to_choice, to_row, next_below, read, at_height, levels, reader}
+use Rattle.cl_rules.specs.Syntax.{Readers, accept, to_empty, to_pair, to_choice, to_row, next_below, read, at_height, levels, reader, reads}
 use Rattle.cl_rules.specs.Fit.{ends, Bounds, closes, grammar, stands_behind, is_blank, empty_fits, fits, names_only, begins_only, lesser, Fits, sample_of, blank}
 use Rattle.cl_rules.proofs.Laws.{one_is, nothing_is, both_is, member_both, made_is, either_is, many_is, counted_is, companion, ends_clear}
 use Rattle.cl_rules.proofs.Bounds.{has_left, has_right, has_parts, has_subset, has_apart, symbol_parts, both_fits, either_fits, many_fits, pair_parts, derivation_ends, grammar_laws}
@@ -347,6 +347,13 @@ module _ {T S : Type 0} (b : Bounds T S) (all_fit : Fits b) where
     λ s. height_is n (levels b.language n) (levels_are n) b.language.height s (symbol_parts b all_fit s).2,
     levels_are n,
   )
+
+  -- a rule's derivations are read rightly, at every nesting
+  pub reads_is : (n : ℕ) (r : Rule T S) → fits b r ≡ true → IsRule (grammar b r) n (reads b.language n r)
+  unfolding reads
+  reads_is n r f =
+      rule_is r f (λ s. true) (names_any r) n (at_height b.language b.language.height (levels b.language n)) (levels b.language n)
+      (λ s k. height_is n (levels b.language n) (levels_are n) b.language.height s (symbol_parts b all_fit s).2) (levels_are n)
 
   -- a symbol's derivations are read rightly, at every nesting
   pub symbol_is : (n : ℕ) (s : S) → IsRule (grammar b (b.language.rules s)) n (reader b.language n s)

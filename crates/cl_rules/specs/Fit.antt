@@ -31,12 +31,17 @@ abbrev pub named_one : {T S : Type 0} {rules : S → Rule T S} (s : S) → Optio
 named_one s (Some x) = Some (node s x)
 named_one s None = None
 
+-- the other where it may be empty
+abbrev pub preferred : {A : Type 0} → Bool → (Unit {0} → A) → (Unit {0} → A) → A
+preferred true one other = other tt
+preferred false one other = one tt
+
 -- a short derivation by the rule, with these for the symbols
 abbrev pub short : {T S : Type 0} (rules : S → Rule T S) → ((s : S) → Option (Derivation rules (rules s))) → (r : Rule T S) → Option (Derivation rules r)
 short rules of (Token classes sample) = Some (leaf sample)
 short rules of Nothing = Some empty
 short rules of (Both a b) = paired (short rules of a) (short rules of b)
-short rules of (Either a b) = chosen (short rules of a) (λ u. short rules of b)
+short rules of (Either a b) = preferred (may_be_empty b) (λ u. chosen (short rules of a) (λ v. short rules of b)) (λ u. second_one (short rules of b))
 short rules of (Many a) = Some none
 short rules of (Counted a) = counted_one (short rules of a)
 short rules of (Symbol s) = named_one s (of s)

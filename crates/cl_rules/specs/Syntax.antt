@@ -20,9 +20,20 @@ pub data Rule (T S : Type 0) : Type 0 where
   Counted : (a : Rule T S) → Rule T S
   Symbol : (s : S) → Rule T S
 
--- a rule or nothing
-abbrev pub Maybe : {T S : Type 0} → Rule T S → Rule T S
-Maybe a = Either a Nothing
+-- so a grammar reads as on paper: one after the other, one or the other, a rule or nothing, any number, operands of a chain
+infixr 62 ◌⨾◌
+abbrev pub ◌⨾◌ : {T S : Type 0} → Rule T S → Rule T S → Rule T S
+a ⨾ b = Both a b
+
+infixr 61 ◌∣◌
+abbrev pub ◌∣◌ : {T S : Type 0} → Rule T S → Rule T S → Rule T S
+a ∣ b = Either a b
+
+abbrev pub maybe : {T S : Type 0} → Rule T S → Rule T S
+maybe a = Either a Nothing
+
+abbrev pub chain : {T S : Type 0} → Rule T S → Rule T S → Rule T S
+chain operand operator = Both operand (Many (Both operator operand))
 
 -- a derivation by a rule
 pub data Derivation {T S : Type 0} (rules : S → Rule T S) : Rule T S → Type 0 where
@@ -195,6 +206,10 @@ at_height l (suc k) below s ts = read l (l.rules s) (at_height l k below) below 
 abbrev pub levels : {T S : Type 0} (l : Language T S) → ℕ → List (Readers l.rules)
 levels l zero = []
 levels l (suc n) = at_height l l.height (levels l n) ∷ levels l n
+
+-- a rule within a nesting of n
+unfoldable pub reads : {T S : Type 0} (l : Language T S) → ℕ → (r : Rule T S) → Parser T (Derivation l.rules r)
+reads l n r = read l r (at_height l l.height (levels l n)) (levels l n)
 
 -- a symbol within a nesting of n
 unfoldable pub reader : {T S : Type 0} (l : Language T S) → ℕ → (s : S) → Parser T (Derivation l.rules (l.rules s))
