@@ -8,10 +8,12 @@ mod items;
 mod mark;
 mod span;
 mod token;
+mod tree;
 mod word;
 
 pub use items::{Items, NoMemory};
 pub use mark::{MARKS, Mark};
 pub use span::Span;
 pub use token::{Token, TokenKind};
+pub use tree::{Call, Chain, Constant, Expr, Field, Formal, Link, Literal, Name, Operation, Operator, Place, Prefix, Text, TypeName, Verb};
 pub use word::{RESERVED, WORDS, Word};
