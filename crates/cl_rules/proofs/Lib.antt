@@ -2,3 +2,4 @@ pub mod Laws
 pub mod Bounds
 pub mod Reading
 pub mod Exact
+pub mod Values

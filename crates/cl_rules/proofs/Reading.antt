@@ -355,6 +355,10 @@ module _ {T S : Type 0} (b : Bounds T S) (all_fit : Fits b) where
       rule_is r f (λ s. true) (names_any r) n (at_height b.language b.language.height (levels b.language n)) (levels b.language n)
       (λ s k. height_is n (levels b.language n) (levels_are n) b.language.height s (symbol_parts b all_fit s).2) (levels_are n)
 
+  -- so are those of a symbol's rule
+  pub symbol_here : (n : ℕ) (s : S) → IsRule (grammar b (b.language.rules s)) n (at_height b.language b.language.height (levels b.language n) s)
+  symbol_here n s = height_is n (levels b.language n) (levels_are n) b.language.height s (symbol_parts b all_fit s).2
+
   -- a symbol's derivations are read rightly, at every nesting
   pub symbol_is : (n : ℕ) (s : S) → IsRule (grammar b (b.language.rules s)) n (reader b.language n s)
   unfolding reader

@@ -1,3 +1,4 @@
 pub mod Rules
 pub mod Syntax
 pub mod Fit
+pub mod Values
