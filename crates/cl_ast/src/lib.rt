@@ -7,6 +7,7 @@
 mod items;
 mod mark;
 mod span;
+mod statement;
 mod token;
 mod tree;
 mod word;
@@ -14,6 +15,7 @@ mod word;
 pub use items::{Items, NoMemory};
 pub use mark::{MARKS, Mark};
 pub use span::Span;
+pub use statement::{Assign, Block, Change, Declarator, Define, Do, For, Form, Function, If, Item, Parameter, Print, Return, Size, Stmt, Variables, While};
 pub use token::{Token, TokenKind};
 pub use tree::{Call, Chain, Constant, Expr, Field, Formal, Link, Literal, Name, Operation, Operator, Place, Prefix, Text, TypeName, Verb};
 pub use word::{RESERVED, WORDS, Word};
