@@ -2,7 +2,7 @@
 use Rattle.std.proofs.Common.{◌≡◌, true, refl}
 use Rattle.cl_rules.specs.Fit.{fits, symbol_fits, Fits}
 use Rattle.cl_ast.specs.Grammar.{unit}
-use Rattle.cl_ast.specs.Grammar.{index, arguments, fields, block, place, primary, unary, product, sum, order, equality, conjunction, expr, field, simple, plain, statement, declarator, variables, params, item}
+use Rattle.cl_ast.specs.Grammar.{index, arguments, fields, block, place, primary, unary, product, sum, order, equality, conjunction, expr, field, simple, plain, statement, given, declarator, variables, params, item}
 use Rattle.cl_ast.specs.Tables.{bounds}
 
 index_fits : symbol_fits bounds index ≡ true
@@ -56,6 +56,9 @@ plain_fits = refl
 statement_fits : symbol_fits bounds statement ≡ true
 statement_fits = refl
 
+given_fits : symbol_fits bounds given ≡ true
+given_fits = refl
+
 declarator_fits : symbol_fits bounds declarator ≡ true
 declarator_fits = refl
 
@@ -86,6 +89,7 @@ grammar_fits field = field_fits
 grammar_fits simple = simple_fits
 grammar_fits plain = plain_fits
 grammar_fits statement = statement_fits
+grammar_fits given = given_fits
 grammar_fits declarator = declarator_fits
 grammar_fits variables = variables_fits
 grammar_fits params = params_fits

@@ -28,6 +28,7 @@ pub data Part : Type 0 where
   simple : Part
   plain : Part
   statement : Part
+  given : Part
   declarator : Part
   variables : Part
   params : Part
@@ -131,13 +132,14 @@ rules plain =
     ∣ word_of words.Break (words.Continue ∷ []) ⨾ mark marks.Semicolon
     ∣ word words.Return ⨾ maybe (Symbol expr) ⨾ mark marks.Semicolon
 rules statement = Symbol block ∣ Symbol plain
-rules declarator = name ⨾ maybe (in_squares size ∣ mark marks.Assign ⨾ Symbol expr)
+rules given = in_squares size ∣ mark marks.Assign ⨾ Symbol expr
+rules declarator = name ⨾ maybe (Symbol given)
 rules variables = type_word ⨾ list_of (Symbol declarator) ⨾ mark marks.Semicolon
 rules params = in_brackets (maybe (word words.Void ∣ list_of (type_word ⨾ name)))
 rules item =
     define_word ⨾ name ⨾ maybe (mark marks.Minus) ⨾ literal
     ∣ type_word ⨾ name ⨾ (Symbol params ⨾ Symbol block
-      ∣ maybe (in_squares size ∣ mark marks.Assign ⨾ Symbol expr) ⨾ Many (mark marks.Comma ⨾ Symbol declarator) ⨾ mark marks.Semicolon)
+      ∣ maybe (Symbol given) ⨾ Many (mark marks.Comma ⨾ Symbol declarator) ⨾ mark marks.Semicolon)
     ∣ maybe (word words.Void) ⨾ name ⨾ Symbol params ⨾ Symbol block
 
 -- a whole source

@@ -4,3 +4,4 @@ pub mod Plain
 pub mod Room
 pub mod Tables
 pub mod Views
+pub mod Trees

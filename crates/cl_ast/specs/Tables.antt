@@ -7,7 +7,7 @@ use Rattle.cl_ast.specs.declared.mark.Mark.TheVariants as marks
 use Rattle.cl_ast.specs.Plain.{PlainToken}
 use Rattle.cl_ast.specs.Classes.{class_of, word_classes, mark_classes}
 use Rattle.cl_ast.specs.Grammar.{Part, rules}
-use Rattle.cl_ast.specs.Grammar.{index, arguments, fields, block, place, primary, unary, product, sum, order, equality, conjunction, expr, field, simple, plain, statement, declarator, variables, params, item}
+use Rattle.cl_ast.specs.Grammar.{index, arguments, fields, block, place, primary, unary, product, sum, order, equality, conjunction, expr, field, simple, plain, statement, given, declarator, variables, params, item}
 
 abbrev pub primary_firsts : List ℕ
 primary_firsts = 0 ∷ 1 ∷ 2 ∷ 3 ∷ (word_classes (words.Inp ∷ words.Rdp ∷ []) ++ mark_classes (marks.OpenBracket ∷ []))
@@ -42,6 +42,7 @@ firsts field = 4 ∷ (mark_classes (marks.Question ∷ []) ++ expr_firsts)
 firsts simple = simple_firsts
 firsts plain = plain_firsts
 firsts statement = mark_classes (marks.OpenBrace ∷ []) ++ plain_firsts
+firsts given = mark_classes (marks.OpenSquare ∷ marks.Assign ∷ [])
 firsts declarator = 0 ∷ []
 firsts variables = type_firsts
 firsts params = mark_classes (marks.OpenBracket ∷ [])
@@ -86,6 +87,7 @@ lasts field = expr_lasts
 lasts simple = expr_lasts
 lasts plain = word_classes (words.Else ∷ [])
 lasts statement = word_classes (words.Else ∷ [])
+lasts given = expr_lasts
 lasts declarator = mark_classes (marks.Assign ∷ []) ++ expr_lasts
 lasts variables = []
 lasts params = []
@@ -109,15 +111,16 @@ rank conjunction = 7
 rank expr = 8
 rank field = 9
 rank simple = 9
-rank declarator = 9
-rank variables = 10
+rank given = 9
+rank declarator = 10
+rank variables = 11
 rank plain = 10
 rank statement = 11
-rank item = 11
+rank item = 12
 
 -- the language, and what is computed of it
 abbrev pub language : Language PlainToken Part
-language = record { class_of = class_of; rules = rules; firsts = firsts; height = 12 }
+language = record { class_of = class_of; rules = rules; firsts = firsts; height = 13 }
 
 abbrev pub bounds : Bounds PlainToken Part
 bounds = record { language = language; lasts = lasts; rank = rank }
