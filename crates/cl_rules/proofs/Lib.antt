@@ -3,3 +3,4 @@ pub mod Bounds
 pub mod Reading
 pub mod Exact
 pub mod Values
+pub mod Unroll
