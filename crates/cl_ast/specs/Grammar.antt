@@ -104,7 +104,7 @@ rules block = in_braces (Many (Symbol variables ∣ Symbol statement))
 rules place = name ⨾ maybe (Symbol index)
 rules primary =
     literal
-    ∣ name ⨾ maybe (Symbol arguments ∣ Symbol index)
+    ∣ name ⨾ (Symbol arguments ∣ maybe (Symbol index))
     ∣ word_of words.Inp (words.Rdp ∷ []) ⨾ Symbol fields
     ∣ in_brackets (Symbol expr)
 rules unary = Symbol primary ∣ Counted (mark_of marks.Minus (marks.Not ∷ []) ⨾ Symbol unary)

@@ -177,12 +177,11 @@ abbrev pub to_operation : List Token → Token → List Field → Operation
 to_operation ts t xs = roll-Operation (record { verb = kind_verb t.kind; fields = xs; span = span_of ts })
 
 -- a name, a call or an element
-abbrev pub to_named : List Token → Token → (List Expr ⊎ Index) ⊎ Unit {0} → Expr
-to_named ts t (inl (inl xs)) = exprs.Call (to_call ts t xs)
-to_named ts t (inl (inr x)) = exprs.Place (to_place ts t (inl x))
-to_named ts t (inr x) = exprs.Place (to_place ts t (inr x))
+abbrev pub to_named : List Token → Token → List Expr ⊎ (Index ⊎ Unit {0}) → Expr
+to_named ts t (inl xs) = exprs.Call (to_call ts t xs)
+to_named ts t (inr x) = exprs.Place (to_place ts t x)
 
-abbrev pub to_primary : List Token → Token ⊎ ((Token × ((List Expr ⊎ Index) ⊎ Unit {0})) ⊎ ((Token × List Field) ⊎ (Token × (Expr × Token)))) → Expr
+abbrev pub to_primary : List Token → Token ⊎ ((Token × (List Expr ⊎ (Index ⊎ Unit {0}))) ⊎ ((Token × List Field) ⊎ (Token × (Expr × Token)))) → Expr
 to_primary ts (inl t) = exprs.Literal (to_literal t)
 to_primary ts (inr (inl x)) = to_named ts x.0 x.1
 to_primary ts (inr (inr (inl x))) = exprs.Operation (to_operation ts x.0 x.1)
@@ -201,12 +200,12 @@ to_links [] = []
 to_links (x ∷ xs) = roll-Link (record { operator = kind_operator x.0.kind; operand = x.1 }) ∷ to_links xs
 
 -- one operand is itself, more are a chain
-abbrev pub to_chain : List Token → Expr → List Link → Expr
-to_chain ts x [] = x
-to_chain ts x (y ∷ ys) = exprs.Chain (roll-Chain (record { first = x; others = y ∷ ys; span = span_of ts }))
+abbrev pub to_chain : Span → Expr → List Link → Expr
+to_chain span x [] = x
+to_chain span x (y ∷ ys) = exprs.Chain (roll-Chain (record { first = x; others = y ∷ ys; span = span }))
 
 abbrev pub to_level : List Token → Expr × List (Token × Expr) → Expr
-to_level ts x = to_chain ts x.0 (to_links x.1)
+to_level ts x = to_chain (span_of ts) x.0 (to_links x.1)
 
 abbrev pub to_field : List Token → Token ⊎ ((Token × Place) ⊎ Expr) → Field
 to_field ts (inl t) = field_forms.Text (to_text t)
