@@ -537,7 +537,7 @@ module _ {T A B : Type 0} {f : Grammar T A} {g : Grammar T B} where
 
 -- ---- the same rule under another name
 
-renamed_ok : {T A B : Type 0} (f : A → B) (r : Result (A × List T) (Kind × List T)) (x : B) (rest : List T) → renamed f r ≡ Ok (x, rest) → (a : A) × (r ≡ Ok (a, rest)) × (f a ≡ x)
+pub renamed_ok : {T A B : Type 0} (f : A → B) (r : Result (A × List T) (Kind × List T)) (x : B) (rest : List T) → renamed f r ≡ Ok (x, rest) → (a : A) × (r ≡ Ok (a, rest)) × (f a ≡ x)
 renamed_ok f (Err bad) x rest e = absurd (not_both (x, rest) bad (sym e))
 renamed_ok f (Ok y) x rest e =
     let same = ok_is (f y.0) x y.1 rest e in

@@ -12,7 +12,7 @@ pub onwards_same : {T A B : Type 0} (r : Step T A) (go on : A → List T → Ste
 onwards_same (Err bad) go on e = refl
 onwards_same (Ok x) go on e = e x.0 x.1
 
-onwards_both : {T A B C : Type 0} (p : Parser T A) (q : Parser T B) (ts : List T) (go : A × B → List T → Step T C) →
+pub onwards_both : {T A B C : Type 0} (p : Parser T A) (q : Parser T B) (ts : List T) (go : A × B → List T → Step T C) →
     onwards (both p q ts) go ≡ onwards (p ts) (λ x us. onwards (q us) (λ y vs. go (x, y) vs))
 onwards_both {T} {A} {B} p q ts go = first (p ts)
   where
@@ -24,11 +24,11 @@ onwards_both {T} {A} {B} p q ts go = first (p ts)
     first (Err bad) = refl
     first (Ok x) = second x.0 (q x.1)
 
-onwards_renamed : {T A B C : Type 0} (f : A → B) (r : Step T A) (go : B → List T → Step T C) → onwards (renamed f r) go ≡ onwards r (λ x us. go (f x) us)
+pub onwards_renamed : {T A B C : Type 0} (f : A → B) (r : Step T A) (go : B → List T → Step T C) → onwards (renamed f r) go ≡ onwards r (λ x us. go (f x) us)
 onwards_renamed f (Err bad) go = refl
 onwards_renamed f (Ok x) go = refl
 
-onwards_ok : {T A : Type 0} (r : Step T A) → onwards r (λ x us. Ok (x, us)) ≡ r
+pub onwards_ok : {T A : Type 0} (r : Step T A) → onwards r (λ x us. Ok (x, us)) ≡ r
 onwards_ok (Err bad) = refl
 onwards_ok (Ok x) = refl
 

@@ -8,7 +8,7 @@ use Rattle.cl_rules.specs.Syntax.{Rule, Token, Nothing, Both, Either, Many, Coun
 use Rattle.cl_rules.specs.Syntax.{accept, to_empty, to_pair, to_choice, to_row, read, at_height, levels, reads}
 use Rattle.cl_rules.specs.Fit.{Bounds, fits, Fits, grammar}
 use Rattle.cl_rules.specs.Values.{Parts, Meaning, value, values, before_rest, built}
-use Rattle.cl_rules.proofs.Laws.{many_unrolls}
+use Rattle.cl_rules.proofs.Laws.{many_unrolls, renamed_ok}
 use Rattle.cl_rules.proofs.Bounds.{many_fits, symbol_parts}
 use Rattle.cl_rules.proofs.Reading.{reads_is, symbol_here}
 use Rattle.cl_rules.proofs.Exact.{readers_agree}
@@ -149,3 +149,12 @@ module _ {T S : Type 0} (b : Bounds T S) (all_fit : Fits b) (m : Meaning b.langu
           let s' = ((reads_is b all_fit n (b.language.rules s) (symbol_parts b all_fit s).0).reads ts).sound y.0 y.1 e in
           let front : tokens y.0 ≡ before_rest ts y.1 = sym (ap (λ xs. before_rest xs y.1) s'.0.split ∙ front_taken (tokens y.0) y.1) in
           ap (λ (u : List T). Ok (m.build s u (value m y.0), y.1)) front
+
+  -- what is left is no longer
+  pub values_rest : (n : ℕ) (r : Rule T S) → fits b r ≡ true → (ts : List T) (x : Parts m.of r) (us : List T) → values b.language m n r ts ≡ Ok (x, us) → length us ≤ length ts
+  unfolding values
+  values_rest n r f ts x us e =
+      let read = renamed_ok (value m) (reads b.language n r ts) x us e in
+      let split = ((reads_is b all_fit n r f).reads ts).sound read.0 us read.1 in
+      let sum : length ts ≡ length (tokens read.0) + length us = ap length split.0.split ∙ length-append (tokens read.0) us in
+      omega arith

@@ -1,0 +1,5 @@
+pub mod Equations
+pub mod Front
+pub mod Loops
+pub mod Marks
+pub mod Spans
