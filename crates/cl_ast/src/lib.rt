@@ -6,6 +6,7 @@
 
 mod items;
 mod mark;
+mod parse_end;
 mod span;
 mod statement;
 mod token;
@@ -14,6 +15,7 @@ mod word;
 
 pub use items::{Items, NoMemory};
 pub use mark::{MARKS, Mark};
+pub use parse_end::ParseEnd;
 pub use span::Span;
 pub use statement::{Assign, Block, Change, Declarator, Define, Do, For, Form, Function, If, Item, Parameter, Print, Return, Size, Stmt, Variables, While};
 pub use token::{Token, TokenKind};

@@ -3,3 +3,4 @@ pub mod Front
 pub mod Loops
 pub mod Marks
 pub mod Spans
+pub mod Verdicts

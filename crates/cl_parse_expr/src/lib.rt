@@ -5,6 +5,8 @@ mod class;
 mod expr;
 mod failure;
 mod nodes;
+mod public;
 mod tokens;
 
+pub use public::{MAX_NESTING, expression};
 pub use failure::Failure;

@@ -543,7 +543,7 @@ renamed_ok f (Ok y) x rest e =
     let same = ok_is (f y.0) x y.1 rest e in
     (y.0, ap (λ (l : List _). ok (y.0, l)) same.1, same.0)
 
-renamed_err : (T A B : Type 0) (f : A → B) (r : Result (A × List T) (Kind × List T)) (bad : Kind × List T) → renamed f r ≡ Err bad → r ≡ Err bad
+pub renamed_err : (T A B : Type 0) (f : A → B) (r : Result (A × List T) (Kind × List T)) (bad : Kind × List T) → renamed f r ≡ Err bad → r ≡ Err bad
 renamed_err T A B f (Err at) bad e = ap (λ (z : Kind × List T). err T A z) (let same : at ≡ bad = cc in same)
 renamed_err T A B f (Ok y) bad e = absurd (not_both (f y.0, y.1) bad e)
 
