@@ -1,5 +1,5 @@
 -- The classes of tokens: each word and each mark is a class of its own, all other tokens are classed by what they are. (This project.)
-use Rattle.std.specs.Prelude.{ℕ, ◌+◌, List, [], ◌∷◌}
+use Rattle.std.specs.Prelude.{ℕ, List, [], ◌∷◌}
 use Rattle.cl_ast.specs.declared.word.Word.{Word}
 use Rattle.cl_ast.specs.declared.word.Word.TheVariants as words
 use Rattle.cl_ast.specs.declared.mark.Mark.{Mark}

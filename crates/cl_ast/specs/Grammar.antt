@@ -1,13 +1,13 @@
 -- The grammar of the language. (ISO/IEC 9899:1999, 6.5 to 6.9, of which it has a part; the operations: Gelernter 1985; what is left out, and
 -- what counts for nesting: this project.)
-use Rattle.std.specs.Prelude.{ℕ, List, [], ◌∷◌, ◌++◌}
-use Rattle.cl_rules.specs.Syntax.{Rule, Token, Nothing, Both, Either, Many, Counted, Symbol, ◌⨾◌, ◌∣◌, maybe, chain, Language}
+use Rattle.std.specs.Prelude.{List, [], ◌∷◌}
+use Rattle.cl_rules.specs.Syntax.{Rule, Token, Many, Counted, Symbol, ◌⨾◌, ◌∣◌, maybe, chain}
 use Rattle.cl_ast.specs.declared.word.Word.{Word}
 use Rattle.cl_ast.specs.declared.word.Word.TheVariants as words
 use Rattle.cl_ast.specs.declared.mark.Mark.{Mark}
 use Rattle.cl_ast.specs.declared.mark.Mark.TheVariants as marks
-use Rattle.cl_ast.specs.Plain.{PlainKind, Name, Int, Long, Character, Str, Keyword, Reserved, Punctuator, Define, PlainToken}
-use Rattle.cl_ast.specs.Classes.{word_class, mark_class, class_of, sample, word_classes, mark_classes}
+use Rattle.cl_ast.specs.Plain.{Name, Character, Str, Keyword, Punctuator, Define, PlainToken}
+use Rattle.cl_ast.specs.Classes.{word_class, mark_class, sample, word_classes, mark_classes}
 
 -- what the rules name
 pub data Part : Type 0 where
@@ -117,8 +117,8 @@ rules expr = chain (Symbol conjunction) (mark marks.Or)
 rules field = text ∣ mark marks.Question ⨾ Symbol place ∣ Symbol expr
 rules simple =
     name ⨾ (Symbol arguments
-      ∣ maybe (Symbol index) ⨾ (mark_of marks.Assign (marks.PlusAssign ∷ marks.MinusAssign ∷ marks.TimesAssign ∷ []) ⨾ Symbol expr
-        ∣ mark_of marks.Increment (marks.Decrement ∷ [])))
+    ∣ maybe (Symbol index) ⨾ (mark_of marks.Assign (marks.PlusAssign ∷ marks.MinusAssign ∷ marks.TimesAssign ∷ []) ⨾ Symbol expr
+    ∣ mark_of marks.Increment (marks.Decrement ∷ [])))
     ∣ mark_of marks.Increment (marks.Decrement ∷ []) ⨾ Symbol place
     ∣ word_of words.Out (words.In ∷ words.Rd ∷ words.Inp ∷ words.Rdp ∷ words.Eval ∷ []) ⨾ Symbol fields
     ∣ word words.Printf ⨾ in_brackets (text ⨾ Many (mark marks.Comma ⨾ Symbol expr))
@@ -139,7 +139,7 @@ rules params = in_brackets (maybe (word words.Void ∣ list_of (type_word ⨾ na
 rules item =
     define_word ⨾ name ⨾ maybe (mark marks.Minus) ⨾ literal
     ∣ type_word ⨾ name ⨾ (Symbol params ⨾ Symbol block
-      ∣ maybe (Symbol given) ⨾ Many (mark marks.Comma ⨾ Symbol declarator) ⨾ mark marks.Semicolon)
+    ∣ maybe (Symbol given) ⨾ Many (mark marks.Comma ⨾ Symbol declarator) ⨾ mark marks.Semicolon)
     ∣ maybe (word words.Void) ⨾ name ⨾ Symbol params ⨾ Symbol block
 
 -- a whole source

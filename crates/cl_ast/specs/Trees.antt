@@ -24,8 +24,8 @@ use Rattle.cl_ast.specs.declared.tree.Call.{Call, roll-Call}
 use Rattle.cl_ast.specs.declared.tree.Operation.{Operation, roll-Operation}
 use Rattle.cl_ast.specs.declared.tree.Field.{Field}
 use Rattle.cl_ast.specs.declared.tree.Field.TheVariants as field_forms
-use Rattle.cl_ast.specs.declared.tree.Formal.{Formal, roll-Formal}
-use Rattle.cl_ast.specs.declared.tree.Chain.{Chain, roll-Chain}
+use Rattle.cl_ast.specs.declared.tree.Formal.{roll-Formal}
+use Rattle.cl_ast.specs.declared.tree.Chain.{roll-Chain}
 use Rattle.cl_ast.specs.declared.tree.Link.{Link, roll-Link}
 use Rattle.cl_ast.specs.declared.tree.Prefix.{Prefix, roll-Prefix}
 use Rattle.cl_ast.specs.declared.statement.Stmt.{Stmt}
@@ -37,20 +37,15 @@ use Rattle.cl_ast.specs.declared.statement.Form.{Form}
 use Rattle.cl_ast.specs.declared.statement.Form.TheVariants as forms
 use Rattle.cl_ast.specs.declared.statement.Size.{Size}
 use Rattle.cl_ast.specs.declared.statement.Size.TheVariants as sizes
-use Rattle.cl_ast.specs.declared.statement.Assign.{Assign}
 use Rattle.cl_ast.specs.declared.statement.Change.{Change}
 use Rattle.cl_ast.specs.declared.statement.Change.TheVariants as changes
-use Rattle.cl_ast.specs.declared.statement.Print.{Print}
-use Rattle.cl_ast.specs.declared.statement.If.{If, roll-If}
-use Rattle.cl_ast.specs.declared.statement.While.{While, roll-While}
-use Rattle.cl_ast.specs.declared.statement.Do.{Do, roll-Do}
-use Rattle.cl_ast.specs.declared.statement.For.{For, roll-For}
-use Rattle.cl_ast.specs.declared.statement.Return.{Return}
+use Rattle.cl_ast.specs.declared.statement.If.{roll-If}
+use Rattle.cl_ast.specs.declared.statement.While.{roll-While}
+use Rattle.cl_ast.specs.declared.statement.Do.{roll-Do}
+use Rattle.cl_ast.specs.declared.statement.For.{roll-For}
 use Rattle.cl_ast.specs.declared.statement.Item.{Item}
 use Rattle.cl_ast.specs.declared.statement.Item.TheVariants as items
-use Rattle.cl_ast.specs.declared.statement.Define.{Define}
 use Rattle.cl_ast.specs.declared.statement.Parameter.{Parameter}
-use Rattle.cl_ast.specs.declared.statement.Function.{Function}
 use Rattle.cl_ast.specs.Plain.{PlainKind, PlainToken}
 use Rattle.cl_ast.specs.Plain as kinds
 use Rattle.cl_ast.specs.Grammar.{Part, rules}

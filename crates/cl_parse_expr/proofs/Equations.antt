@@ -98,27 +98,27 @@ unfolding reading links_reading link_reading token_of begins_of
 links_reads levels.Product n ts =
     ap (renamed to_links) (list_unrolls bounds grammar_fits meaning (operator_row levels.Product ⨾ Symbol parts.unary) refl n ts)
     ∙ list_steps to_links to_link (λ t x xs. refl) refl (token_of (level_classes levels.Product)) (reading parts.unary n) (values language meaning n (Many (operator_row levels.Product ⨾ Symbol parts.unary)))
-        (begins_of (level_classes levels.Product) ts) ts
+    (begins_of (level_classes levels.Product) ts) ts
 links_reads levels.Sum n ts =
     ap (renamed to_links) (list_unrolls bounds grammar_fits meaning (operator_row levels.Sum ⨾ Symbol parts.product) refl n ts)
     ∙ list_steps to_links to_link (λ t x xs. refl) refl (token_of (level_classes levels.Sum)) (reading parts.product n) (values language meaning n (Many (operator_row levels.Sum ⨾ Symbol parts.product)))
-        (begins_of (level_classes levels.Sum) ts) ts
+    (begins_of (level_classes levels.Sum) ts) ts
 links_reads levels.Order n ts =
     ap (renamed to_links) (list_unrolls bounds grammar_fits meaning (operator_row levels.Order ⨾ Symbol parts.sum) refl n ts)
     ∙ list_steps to_links to_link (λ t x xs. refl) refl (token_of (level_classes levels.Order)) (reading parts.sum n) (values language meaning n (Many (operator_row levels.Order ⨾ Symbol parts.sum)))
-        (begins_of (level_classes levels.Order) ts) ts
+    (begins_of (level_classes levels.Order) ts) ts
 links_reads levels.Equality n ts =
     ap (renamed to_links) (list_unrolls bounds grammar_fits meaning (operator_row levels.Equality ⨾ Symbol parts.order) refl n ts)
     ∙ list_steps to_links to_link (λ t x xs. refl) refl (token_of (level_classes levels.Equality)) (reading parts.order n) (values language meaning n (Many (operator_row levels.Equality ⨾ Symbol parts.order)))
-        (begins_of (level_classes levels.Equality) ts) ts
+    (begins_of (level_classes levels.Equality) ts) ts
 links_reads levels.Conjunction n ts =
     ap (renamed to_links) (list_unrolls bounds grammar_fits meaning (operator_row levels.Conjunction ⨾ Symbol parts.equality) refl n ts)
     ∙ list_steps to_links to_link (λ t x xs. refl) refl (token_of (level_classes levels.Conjunction)) (reading parts.equality n) (values language meaning n (Many (operator_row levels.Conjunction ⨾ Symbol parts.equality)))
-        (begins_of (level_classes levels.Conjunction) ts) ts
+    (begins_of (level_classes levels.Conjunction) ts) ts
 links_reads levels.Expr n ts =
     ap (renamed to_links) (list_unrolls bounds grammar_fits meaning (operator_row levels.Expr ⨾ Symbol parts.conjunction) refl n ts)
     ∙ list_steps to_links to_link (λ t x xs. refl) refl (token_of (level_classes levels.Expr)) (reading parts.conjunction n) (values language meaning n (Many (operator_row levels.Expr ⨾ Symbol parts.conjunction)))
-        (begins_of (level_classes levels.Expr) ts) ts
+    (begins_of (level_classes levels.Expr) ts) ts
 
 pub index_reads : (n : ℕ) (ts : List PlainToken) → 0 < n →
     reading parts.index n ts ≡ onwards (token_of (mark_class marks.OpenSquare ∷ []) ts)
@@ -158,7 +158,7 @@ unfolding reading arguments_reading argument_reading token_of begins_of
 arguments_reads n ts =
     ap (renamed behind_marks) (list_unrolls bounds grammar_fits meaning (mark marks.Comma ⨾ Symbol parts.expr) refl n ts)
     ∙ list_steps behind_marks (λ t x. x) (λ t x xs. refl) refl (token_of (mark_class marks.Comma ∷ [])) (reading parts.expr n)
-        (values language meaning n (Many (mark marks.Comma ⨾ Symbol parts.expr))) (begins_of (mark_class marks.Comma ∷ []) ts) ts
+    (values language meaning n (Many (mark marks.Comma ⨾ Symbol parts.expr))) (begins_of (mark_class marks.Comma ∷ []) ts) ts
 
 pub fields_reads : (n : ℕ) (ts : List PlainToken) →
     fields_reading n ts ≡ cond (begins_of (mark_class marks.Comma ∷ []) ts) (onwards (field_reading n ts) (λ x us. onwards (fields_reading n us) (λ xs vs. Ok (x ∷ xs, vs)))) (Ok ([], ts))
@@ -166,7 +166,7 @@ unfolding reading fields_reading field_reading token_of begins_of
 fields_reads n ts =
     ap (renamed behind_marks) (list_unrolls bounds grammar_fits meaning (mark marks.Comma ⨾ Symbol parts.field) refl n ts)
     ∙ list_steps behind_marks (λ t x. x) (λ t x xs. refl) refl (token_of (mark_class marks.Comma ∷ [])) (reading parts.field n)
-        (values language meaning n (Many (mark marks.Comma ⨾ Symbol parts.field))) (begins_of (mark_class marks.Comma ∷ []) ts) ts
+    (values language meaning n (Many (mark marks.Comma ⨾ Symbol parts.field))) (begins_of (mark_class marks.Comma ∷ []) ts) ts
 
 -- a list that may be none, with what stands behind it
 listed_steps : (p : Step PlainToken Expr) (q : List PlainToken → Step PlainToken (List (PlainToken × Expr))) (f : List PlainToken → Step PlainToken PlainToken) (c : Bool) (us : List PlainToken) →
@@ -194,12 +194,12 @@ unfolding reading token_of begins_of listed_reading arguments_reading
 call_reads n ts h =
     symbol_unrolls bounds grammar_fits meaning parts.arguments n ts ∙ deeper n _ _ h
     ∙ onwards_same (token_of (mark_class marks.OpenBracket ∷ []) ts)
-        (λ t us. cond (begins_of expr_firsts us) (onwards (reading parts.expr (n - 1) us)
-        (λ x vs. onwards (values language meaning (n - 1) (Many (mark marks.Comma ⨾ Symbol parts.expr)) vs) (λ xs ws. onwards (token_of (mark_class marks.CloseBracket ∷ []) ws)
-            (λ u zs. Ok (x ∷ behind_marks xs, zs))))) (onwards (token_of (mark_class marks.CloseBracket ∷ []) us) (λ u zs. Ok ([], zs))))
-        (λ t us. onwards (listed_reading (n - 1) us) (λ xs vs. onwards (token_of (mark_class marks.CloseBracket ∷ []) vs) (λ u ws. Ok (xs, ws))))
-        (λ t us. listed_steps (reading parts.expr (n - 1) us) (values language meaning (n - 1) (Many (mark marks.Comma ⨾ Symbol parts.expr))) (token_of (mark_class marks.CloseBracket ∷ []))
-            (begins_of expr_firsts us) us)
+    (λ t us. cond (begins_of expr_firsts us) (onwards (reading parts.expr (n - 1) us)
+    (λ x vs. onwards (values language meaning (n - 1) (Many (mark marks.Comma ⨾ Symbol parts.expr)) vs) (λ xs ws. onwards (token_of (mark_class marks.CloseBracket ∷ []) ws)
+    (λ u zs. Ok (x ∷ behind_marks xs, zs))))) (onwards (token_of (mark_class marks.CloseBracket ∷ []) us) (λ u zs. Ok ([], zs))))
+    (λ t us. onwards (listed_reading (n - 1) us) (λ xs vs. onwards (token_of (mark_class marks.CloseBracket ∷ []) vs) (λ u ws. Ok (xs, ws))))
+    (λ t us. listed_steps (reading parts.expr (n - 1) us) (values language meaning (n - 1) (Many (mark marks.Comma ⨾ Symbol parts.expr))) (token_of (mark_class marks.CloseBracket ∷ []))
+    (begins_of expr_firsts us) us)
 
 pub call_refused : (ts : List PlainToken) → reading parts.arguments 0 ts ≡ refused (mark_class marks.OpenBracket ∷ []) ts
 unfolding reading begins_of
@@ -212,15 +212,15 @@ unfolding reading token_of fields_reading
 operation_reads n ts h =
     symbol_unrolls bounds grammar_fits meaning parts.fields n ts ∙ deeper n _ _ h
     ∙ onwards_same (token_of (mark_class marks.OpenBracket ∷ []) ts)
-        (λ t us. onwards (reading parts.field (n - 1) us) (λ x vs. onwards (values language meaning (n - 1) (Many (mark marks.Comma ⨾ Symbol parts.field)) vs)
-            (λ xs ws. onwards (token_of (mark_class marks.CloseBracket ∷ []) ws) (λ u zs. Ok (x ∷ behind_marks xs, zs)))))
-        (λ t us. onwards (reading parts.field (n - 1) us) (λ x vs. onwards (fields_reading (n - 1) vs) (λ xs ws. onwards (token_of (mark_class marks.CloseBracket ∷ []) ws) (λ u zs. Ok (x ∷ xs, zs)))))
-        (λ t us. onwards_same (reading parts.field (n - 1) us)
-            (λ x vs. onwards (values language meaning (n - 1) (Many (mark marks.Comma ⨾ Symbol parts.field)) vs)
-            (λ xs ws. onwards (token_of (mark_class marks.CloseBracket ∷ []) ws) (λ u zs. Ok (x ∷ behind_marks xs, zs))))
-            (λ x vs. onwards (fields_reading (n - 1) vs) (λ xs ws. onwards (token_of (mark_class marks.CloseBracket ∷ []) ws) (λ u zs. Ok (x ∷ xs, zs))))
-            (λ x vs. sym (onwards_renamed behind_marks (values language meaning (n - 1) (Many (mark marks.Comma ⨾ Symbol parts.field)) vs)
-                (λ xs ws. onwards (token_of (mark_class marks.CloseBracket ∷ []) ws) (λ u zs. Ok (x ∷ xs, zs))))))
+    (λ t us. onwards (reading parts.field (n - 1) us) (λ x vs. onwards (values language meaning (n - 1) (Many (mark marks.Comma ⨾ Symbol parts.field)) vs)
+    (λ xs ws. onwards (token_of (mark_class marks.CloseBracket ∷ []) ws) (λ u zs. Ok (x ∷ behind_marks xs, zs)))))
+    (λ t us. onwards (reading parts.field (n - 1) us) (λ x vs. onwards (fields_reading (n - 1) vs) (λ xs ws. onwards (token_of (mark_class marks.CloseBracket ∷ []) ws) (λ u zs. Ok (x ∷ xs, zs)))))
+    (λ t us. onwards_same (reading parts.field (n - 1) us)
+    (λ x vs. onwards (values language meaning (n - 1) (Many (mark marks.Comma ⨾ Symbol parts.field)) vs)
+    (λ xs ws. onwards (token_of (mark_class marks.CloseBracket ∷ []) ws) (λ u zs. Ok (x ∷ behind_marks xs, zs))))
+    (λ x vs. onwards (fields_reading (n - 1) vs) (λ xs ws. onwards (token_of (mark_class marks.CloseBracket ∷ []) ws) (λ u zs. Ok (x ∷ xs, zs))))
+    (λ x vs. sym (onwards_renamed behind_marks (values language meaning (n - 1) (Many (mark marks.Comma ⨾ Symbol parts.field)) vs)
+    (λ xs ws. onwards (token_of (mark_class marks.CloseBracket ∷ []) ws) (λ u zs. Ok (x ∷ xs, zs))))))
 
 pub operation_refused : (ts : List PlainToken) → reading parts.fields 0 ts ≡ refused (mark_class marks.OpenBracket ∷ []) ts
 unfolding reading begins_of

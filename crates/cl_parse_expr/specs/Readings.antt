@@ -105,7 +105,7 @@ unfoldable pub named_reading : ℕ → List PlainToken → Step PlainToken Expr
 named_reading n ts =
     onwards (token_of (0 ∷ []) ts)
     (λ t us.
-        if begins_of (mark_class marks.OpenBracket ∷ []) us then onwards (reading parts.arguments n us) (λ xs vs. Ok (to_primary (before_rest ts vs) (inr (inl (t, inl xs))), vs))
-        else (if begins_of (mark_class marks.OpenSquare ∷ []) us
-          then onwards (reading parts.index n us) (λ x vs. Ok (to_primary (before_rest ts vs) (inr (inl (t, inr (inl x)))), vs))
-          else Ok (to_primary (before_rest ts us) (inr (inl (t, inr (inr tt)))), us)))
+    if begins_of (mark_class marks.OpenBracket ∷ []) us then onwards (reading parts.arguments n us) (λ xs vs. Ok (to_primary (before_rest ts vs) (inr (inl (t, inl xs))), vs))
+    else (if begins_of (mark_class marks.OpenSquare ∷ []) us
+    then onwards (reading parts.index n us) (λ x vs. Ok (to_primary (before_rest ts vs) (inr (inl (t, inr (inl x)))), vs))
+    else Ok (to_primary (before_rest ts us) (inr (inl (t, inr (inr tt)))), us)))

@@ -101,7 +101,10 @@ fn is_prefix(mark: Mark) -> bool
 fn is_literal(kind: &TokenKind) -> bool
     ensures { result ≡ has (classes_of Class.Literal) (kind_class (plain_kind kind.now)) }
 {
-    matches!(kind, TokenKind::Int(_) | TokenKind::Long(_) | TokenKind::Character(_))
+    matches!(
+        kind,
+        TokenKind::Int(_) | TokenKind::Long(_) | TokenKind::Character(_)
+    )
 }
 
 fn is_primary(kind: &TokenKind) -> bool

@@ -1,11 +1,3 @@
-use crate::Failure;
-use crate::class::{Class, Level};
-use crate::nodes::{chain, literal, name, operator, span, text, verb};
-use crate::tokens::{begins, take};
-use cl_ast::{Call, Expr, Field, Formal, Link, Mark, Operation, Place, Prefix, Span, Token, TokenKind};
-use sqlite_items::{Boxed, Items};
-use std::alloc::{AllocError, Global};
-
 ghost use Rattle.std.specs.Prelude.{◌≡◌, ◌++◌, IfOk, Ok};
 ghost use Rattle.cl_rules.specs.Unroll.{onwards};
 ghost use Rattle.cl_ast.specs.declared.tree.Prefix.{roll-Prefix};
@@ -15,10 +7,25 @@ ghost use Rattle.cl_ast.specs.Trees.{is_not, to_prefix};
 ghost use Rattle.cl_parse_expr.specs.Steps.{plain_tokens, reading, Gives};
 ghost use Rattle.cl_parse_expr.specs.Readings.{level_reading, operand_reading, link_reading, links_reading, argument_reading, arguments_reading, field_reading, fields_reading, listed_reading, prefixed_reading, bracketed_reading, named_reading};
 
+use crate::Failure;
+use crate::class::{Class, Level};
+use crate::nodes::{chain, literal, name, operator, span, text, verb};
+use crate::tokens::{begins, take};
+use cl_ast::{
+    Call, Expr, Field, Formal, Link, Mark, Operation, Place, Prefix, Span, Token, TokenKind,
+};
+use sqlite_items::{Boxed, Items};
+use std::alloc::{AllocError, Global};
+
 /// Reads an expression of a level.
 #[cycle(expressions)]
 #[tactic(auto, using(crate::proofs::Equations::level_reads))]
-pub fn level(alloc: Global, level: Level, nesting: u8, tokens: &[Token]) -> Result<(Expr, &[Token]), Failure<'_>>
+pub fn level(
+    alloc: Global,
+    level: Level,
+    nesting: u8,
+    tokens: &[Token],
+) -> Result<(Expr, &[Token]), Failure<'_>>
     ensures { Gives result (level_reading level nesting (plain_tokens tokens.now)) }
 {
     let (first, rest) = operand(alloc, level, nesting, tokens)?;
@@ -28,7 +35,12 @@ pub fn level(alloc: Global, level: Level, nesting: u8, tokens: &[Token]) -> Resu
 
 /// Reads an operand of a level.
 #[cycle(expressions)]
-fn operand(alloc: Global, level: Level, nesting: u8, tokens: &[Token]) -> Result<(Expr, &[Token]), Failure<'_>>
+fn operand(
+    alloc: Global,
+    level: Level,
+    nesting: u8,
+    tokens: &[Token],
+) -> Result<(Expr, &[Token]), Failure<'_>>
     ensures { Gives result (operand_reading level nesting (plain_tokens tokens.now)) }
 {
     match level {
@@ -44,7 +56,12 @@ fn operand(alloc: Global, level: Level, nesting: u8, tokens: &[Token]) -> Result
 /// Reads an operator and the operand behind it.
 #[cycle(expressions)]
 #[tactic(auto, unfolding(crate::specs::Readings::link_reading))]
-fn link(alloc: Global, level: Level, nesting: u8, tokens: &[Token]) -> Result<(Link, &[Token]), Failure<'_>>
+fn link(
+    alloc: Global,
+    level: Level,
+    nesting: u8,
+    tokens: &[Token],
+) -> Result<(Link, &[Token]), Failure<'_>>
     ensures { Gives result (link_reading level nesting (plain_tokens tokens.now)) }
 {
     let (token, rest) = take(Class::Operator(level), tokens)?;
@@ -56,7 +73,12 @@ fn link(alloc: Global, level: Level, nesting: u8, tokens: &[Token]) -> Result<(L
 /// Reads operators with the operands behind them, as many as there are.
 #[cycle(expressions)]
 #[tactic(auto, using(crate::proofs::Equations::links_reads))]
-fn links(alloc: Global, level: Level, nesting: u8, tokens: &[Token]) -> Result<(Items<Link>, &[Token]), Failure<'_>>
+fn links(
+    alloc: Global,
+    level: Level,
+    nesting: u8,
+    tokens: &[Token],
+) -> Result<(Items<Link>, &[Token]), Failure<'_>>
     ensures { Gives result (links_reading level nesting (plain_tokens tokens.now)) }
 {
     let mut found = Items::new(alloc);
@@ -117,7 +139,10 @@ fn prefixed(alloc: Global, nesting: u8, tokens: &[Token]) -> Result<(Expr, &[Tok
     } else {
         let (token, rest) = take(Class::Prefix, tokens)?;
         let (operand, rest) = unary(alloc, nesting - 1, rest)?;
-        Ok((prefix(alloc, is_not(&token.kind), operand, span(tokens, rest))?, rest))
+        Ok((
+            prefix(alloc, is_not(&token.kind), operand, span(tokens, rest))?,
+            rest,
+        ))
     }
 }
 
@@ -174,7 +199,14 @@ fn named(alloc: Global, nesting: u8, tokens: &[Token]) -> Result<(Expr, &[Token]
     if begins(Class::Mark(Mark::OpenBracket), rest) {
         let (arguments, rest) = arguments(alloc, nesting, rest)?;
         let span = span(tokens, rest);
-        Ok((Expr::Call(Call { name, arguments, span }), rest))
+        Ok((
+            Expr::Call(Call {
+                name,
+                arguments,
+                span,
+            }),
+            rest,
+        ))
     } else if begins(Class::Mark(Mark::OpenSquare), rest) {
         let ((index, _), rest) = index(alloc, nesting, rest)?;
         let index = Some(Boxed::new(alloc, index)?);
@@ -182,7 +214,14 @@ fn named(alloc: Global, nesting: u8, tokens: &[Token]) -> Result<(Expr, &[Token]
         Ok((Expr::Place(Place { name, index, span }), rest))
     } else {
         let span = span(tokens, rest);
-        Ok((Expr::Place(Place { name, index: None, span }), rest))
+        Ok((
+            Expr::Place(Place {
+                name,
+                index: None,
+                span,
+            }),
+            rest,
+        ))
     }
 }
 
@@ -201,14 +240,25 @@ pub fn place(alloc: Global, nesting: u8, tokens: &[Token]) -> Result<(Place, &[T
         Ok((Place { name, index, span }, rest))
     } else {
         let span = span(tokens, rest);
-        Ok((Place { name, index: None, span }, rest))
+        Ok((
+            Place {
+                name,
+                index: None,
+                span,
+            },
+            rest,
+        ))
     }
 }
 
 /// Reads an index in its brackets, and gives the place after them too.
 #[cycle(expressions)]
 #[tactic(auto, using(crate::proofs::Equations::index_reads, crate::proofs::Equations::index_refused))]
-pub fn index(alloc: Global, nesting: u8, tokens: &[Token]) -> Result<((Expr, u32), &[Token]), Failure<'_>>
+pub fn index(
+    alloc: Global,
+    nesting: u8,
+    tokens: &[Token],
+) -> Result<((Expr, u32), &[Token]), Failure<'_>>
     ensures { Gives result (reading parts.index nesting (plain_tokens tokens.now)) }
 {
     if nesting == 0 {
@@ -228,7 +278,11 @@ pub fn index(alloc: Global, nesting: u8, tokens: &[Token]) -> Result<((Expr, u32
 /// Reads the arguments of a call, in their brackets.
 #[cycle(expressions)]
 #[tactic(auto, using(crate::proofs::Equations::call_reads, crate::proofs::Equations::call_refused))]
-pub fn arguments(alloc: Global, nesting: u8, tokens: &[Token]) -> Result<(Items<Expr>, &[Token]), Failure<'_>>
+pub fn arguments(
+    alloc: Global,
+    nesting: u8,
+    tokens: &[Token],
+) -> Result<(Items<Expr>, &[Token]), Failure<'_>>
     ensures { Gives result (reading parts.arguments nesting (plain_tokens tokens.now)) }
 {
     if nesting == 0 {
@@ -248,7 +302,11 @@ pub fn arguments(alloc: Global, nesting: u8, tokens: &[Token]) -> Result<(Items<
 /// Reads expressions with commas between them, or none.
 #[cycle(expressions)]
 #[tactic(auto, unfolding(crate::specs::Readings::listed_reading))]
-fn listed(alloc: Global, nesting: u8, tokens: &[Token]) -> Result<(Items<Expr>, &[Token]), Failure<'_>>
+fn listed(
+    alloc: Global,
+    nesting: u8,
+    tokens: &[Token],
+) -> Result<(Items<Expr>, &[Token]), Failure<'_>>
     ensures { Gives result (listed_reading nesting (plain_tokens tokens.now)) }
 {
     let mut found = Items::new(alloc);
@@ -274,7 +332,12 @@ fn argument(alloc: Global, nesting: u8, tokens: &[Token]) -> Result<(Expr, &[Tok
 /// Reads expressions behind commas, as many as there are, and puts them behind those found.
 #[cycle(expressions)]
 #[tactic(auto, using(crate::proofs::Equations::arguments_reads))]
-pub fn more_arguments(alloc: Global, nesting: u8, found: Items<Expr>, tokens: &[Token]) -> Result<(Items<Expr>, &[Token]), Failure<'_>>
+pub fn more_arguments(
+    alloc: Global,
+    nesting: u8,
+    found: Items<Expr>,
+    tokens: &[Token],
+) -> Result<(Items<Expr>, &[Token]), Failure<'_>>
     ensures { Gives result (onwards (arguments_reading nesting (plain_tokens tokens.now)) (λ xs us. Ok (found ++ xs, us))) }
 {
     let mut all = found;
@@ -290,7 +353,11 @@ pub fn more_arguments(alloc: Global, nesting: u8, found: Items<Expr>, tokens: &[
 /// Reads the fields of an operation, in their brackets.
 #[cycle(expressions)]
 #[tactic(auto, using(crate::proofs::Equations::operation_reads, crate::proofs::Equations::operation_refused))]
-pub fn fields(alloc: Global, nesting: u8, tokens: &[Token]) -> Result<(Items<Field>, &[Token]), Failure<'_>>
+pub fn fields(
+    alloc: Global,
+    nesting: u8,
+    tokens: &[Token],
+) -> Result<(Items<Field>, &[Token]), Failure<'_>>
     ensures { Gives result (reading parts.fields nesting (plain_tokens tokens.now)) }
 {
     if nesting == 0 {
@@ -333,7 +400,11 @@ fn field(alloc: Global, nesting: u8, tokens: &[Token]) -> Result<(Field, &[Token
 /// Reads a comma and a field.
 #[cycle(expressions)]
 #[tactic(auto, unfolding(crate::specs::Readings::field_reading))]
-fn next_field(alloc: Global, nesting: u8, tokens: &[Token]) -> Result<(Field, &[Token]), Failure<'_>>
+fn next_field(
+    alloc: Global,
+    nesting: u8,
+    tokens: &[Token],
+) -> Result<(Field, &[Token]), Failure<'_>>
     ensures { Gives result (field_reading nesting (plain_tokens tokens.now)) }
 {
     let (_, rest) = take(Class::Mark(Mark::Comma), tokens)?;
@@ -343,7 +414,12 @@ fn next_field(alloc: Global, nesting: u8, tokens: &[Token]) -> Result<(Field, &[
 /// Reads fields behind commas, as many as there are, and puts them behind those found.
 #[cycle(expressions)]
 #[tactic(auto, using(crate::proofs::Equations::fields_reads))]
-fn more_fields(alloc: Global, nesting: u8, found: Items<Field>, tokens: &[Token]) -> Result<(Items<Field>, &[Token]), Failure<'_>>
+fn more_fields(
+    alloc: Global,
+    nesting: u8,
+    found: Items<Field>,
+    tokens: &[Token],
+) -> Result<(Items<Field>, &[Token]), Failure<'_>>
     ensures { Gives result (onwards (fields_reading nesting (plain_tokens tokens.now)) (λ xs us. Ok (found ++ xs, us))) }
 {
     let mut all = found;

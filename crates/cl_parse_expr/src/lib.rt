@@ -8,5 +8,5 @@ mod nodes;
 mod public;
 mod tokens;
 
-pub use public::{MAX_NESTING, expression};
 pub use failure::Failure;
+pub use public::{MAX_NESTING, expression};

@@ -1,12 +1,15 @@
-use cl_ast::{Chain, Constant, Expr, Link, Literal, Mark, Name, Operator, Span, Text, Token, TokenKind, Verb, Word};
-use sqlite_items::{Boxed, Items};
-use std::alloc::{AllocError, Global};
-
 ghost use Rattle.std.specs.Prelude.{◌≡◌, IfOk};
 ghost use Rattle.cl_rules.specs.Values.{before_rest};
 ghost use Rattle.cl_ast.specs.Views.{plain_token, plain_kind};
 ghost use Rattle.cl_ast.specs.Trees.{span_of, token_bytes, to_name, to_text, to_literal, kind_constant, kind_verb, kind_operator, to_chain};
 ghost use Rattle.cl_parse_expr.specs.Steps.{plain_tokens};
+
+use cl_ast::{
+    Chain, Constant, Expr, Link, Literal, Mark, Name, Operator, Span, Text, Token, TokenKind, Verb,
+    Word,
+};
+use sqlite_items::{Boxed, Items};
+use std::alloc::{AllocError, Global};
 
 /// The place of the tokens that were read, from the first to the last.
 pub fn span(tokens: &[Token], rest: &[Token]) -> Span
@@ -117,7 +120,12 @@ pub fn operator(kind: &TokenKind) -> Operator
 }
 
 /// One operand by itself, or a chain of several.
-pub fn chain(alloc: Global, span: Span, first: Expr, others: Items<Link>) -> Result<Expr, AllocError>
+pub fn chain(
+    alloc: Global,
+    span: Span,
+    first: Expr,
+    others: Items<Link>,
+) -> Result<Expr, AllocError>
     ensures { IfOk result (λ found. found ≡ to_chain span first others) }
 {
     if others.is_empty() {

@@ -1,12 +1,12 @@
+ghost use Rattle.std.specs.Prelude.{ℕ, ◌≡◌, ◌-◌, ◌<◌, ◌^◌, drop, length, IfOk};
+ghost use Rattle.cl_parse_expr.specs.Steps.{plain_tokens};
+ghost use Rattle.cl_parse_expr.specs.Expression.{IsRead, IsRefused};
+
 use crate::Failure;
 use crate::class::Level;
 use crate::expr::level;
 use cl_ast::{Expr, ParseEnd, Token};
 use std::alloc::Global;
-
-ghost use Rattle.std.specs.Prelude.{ℕ, ◌≡◌, ◌-◌, ◌<◌, ◌^◌, drop, length, IfOk};
-ghost use Rattle.cl_parse_expr.specs.Steps.{plain_tokens};
-ghost use Rattle.cl_parse_expr.specs.Expression.{IsRead, IsRefused};
 
 /// No counted part of a source stands inside more than 63 others: brackets, prefix operators and statements
 /// of other statements.
@@ -34,12 +34,22 @@ fn place(tokens: &[Token], rest: &[Token]) -> u32
 ///
 /// The answer is its tree and the place after it. It ends where nothing goes on, by `Syntax`, or where a part
 /// begins that stands too deep, by `TooDeep`; `NoMemory` comes where the allocator refused memory.
-pub fn expression(alloc: Global, tokens: &[Token], at: usize, depth: u8) -> Result<(Expr, usize), ParseEnd>
+pub fn expression(
+    alloc: Global,
+    tokens: &[Token],
+    at: usize,
+    depth: u8,
+) -> Result<(Expr, usize), ParseEnd>
     requires { length tokens.now < 2 ^ 32 }
     ensures tree { IfOk result (λ (found, end). IsRead (64 - depth) (drop at (plain_tokens tokens.now)) found (drop end (plain_tokens tokens.now))) }
     ensures refused { IsRefused (64 - depth) at (plain_tokens tokens.now) result }
 {
-    match level(alloc, Level::Expr, MAX_NESTING.saturating_sub(depth), from(tokens, at)) {
+    match level(
+        alloc,
+        Level::Expr,
+        MAX_NESTING.saturating_sub(depth),
+        from(tokens, at),
+    ) {
         Ok((found, rest)) => Ok((found, tokens.len().saturating_sub(rest.len()))),
         Err(Failure::Syntax(rest)) => Err(ParseEnd::Syntax {
             token: place(tokens, rest),

@@ -1,10 +1,10 @@
-use crate::Failure;
-use crate::class::Class;
-use cl_ast::Token;
-
 ghost use Rattle.std.specs.Prelude.{◌≡◌, [], ◌∷◌, MatchOption};
 ghost use Rattle.cl_parse_expr.specs.Classes.{classes_of};
 ghost use Rattle.cl_parse_expr.specs.Steps.{plain_tokens, begins_of, token_of, Takes};
+
+use crate::Failure;
+use crate::class::Class;
+use cl_ast::Token;
 
 /// The first token and those behind it.
 fn first(tokens: &[Token]) -> Option<(&Token, &[Token])>

@@ -1,12 +1,12 @@
 -- Derivations keep the bounds that a grammar that fits computes.
-use Rattle.std.proofs.Common.{◌≡◌, ◌+◌, ◌-◌, ◌<◌, ◌≤◌, ℕ, zero, suc, Bool, true, false, not, cond, List, [], ◌∷◌, ◌++◌, length, Option, Some, None}
-use Rattle.std.proofs.Common.{refl, sym, ap, subst, ◌∙◌, length-append, inl, inr, arith}
-use Rattle.std.specs.Prelude.{max, ◌⊎◌, ◌&&◌, ◌||◌, ◌==◌}
-use Rattle.std.proofs.lemmas.Bool.{and_parts, and_from, both_ways, not-true, or_cases, or_left, or_right}
-use Rattle.cl_rules.specs.Rules.{begins, clear, is_empty, one_deeper, IsGrammar, IsFlat}
-use Rattle.cl_rules.specs.Syntax.{Rule, Token, Nothing, Both, Either, Many, Counted, Symbol, Derivation, leaf, empty, pair, first, second, none, more, part, node}
-use Rattle.cl_rules.specs.Syntax.{tokens, nesting, reach, has, subset, apart, may_be_empty, starts, Language, opens, goes_on, derives}
-use Rattle.cl_rules.specs.Fit.{ends, Bounds, closes, grammar, stands_behind, is_blank, empty_fits, fits, names_only, begins_only, lesser, symbol_fits, Fits, sample_of, blank}
+use Rattle.std.proofs.Common.{◌≡◌, ◌+◌, ◌-◌, ◌<◌, ◌≤◌, ℕ, zero, suc, Bool, true, false, not, cond, List, [], ◌∷◌, ◌++◌, length}
+use Rattle.std.proofs.Common.{refl, ap, subst, ◌∙◌, length-append, inl, inr, arith}
+use Rattle.std.specs.Prelude.{◌⊎◌, ◌&&◌, ◌||◌, ◌==◌}
+use Rattle.std.proofs.lemmas.Bool.{and_parts, both_ways, not-true, or_cases, or_left, or_right}
+use Rattle.cl_rules.specs.Rules.{begins, clear, is_empty, IsGrammar}
+use Rattle.cl_rules.specs.Syntax.{Rule, Both, Either, Symbol, Derivation, leaf, empty, pair, first, second, none, more, part, node}
+use Rattle.cl_rules.specs.Syntax.{tokens, nesting, reach, has, subset, apart, may_be_empty, starts, opens, goes_on, derives}
+use Rattle.cl_rules.specs.Fit.{ends, Bounds, closes, grammar, stands_behind, empty_fits, fits, names_only, begins_only, lesser, Fits, sample_of}
 use Rattle.cl_rules.proofs.Laws.{begins_both, ends_both, begins_left, begins_right}
 
 -- ---- lists of classes
@@ -219,7 +219,7 @@ module _ {T S : Type 0} (b : Bounds T S) (all_fit : Fits b) where
       let parts = pair_parts x y h in
       begins_wider (λ t. opens b.language r t || (may_be_empty r && opens b.language c t)) (opens b.language (Both r c)) (may_be_empty r && may_be_empty c) (tokens x ++ tokens y)
       (opens_both r c) (begins_both (opens b.language r) (opens b.language c) (may_be_empty r) (may_be_empty c) (tokens x) (tokens y)
-          (derivation_starts x fit.0 parts.0) (derivation_starts y fit.1 parts.1))
+      (derivation_starts x fit.0 parts.0) (derivation_starts y fit.1 parts.1))
   derivation_starts (first {a = r} {b = c} x) f h =
       let fit = either_fits r c f in
       begins_wider (λ t. opens b.language r t || opens b.language c t) (opens b.language (Either r c)) (may_be_empty c) (tokens x) (opens_either r c)
@@ -237,8 +237,8 @@ module _ {T S : Type 0} (b : Bounds T S) (all_fit : Fits b) where
       let symbol = symbol_parts s in
       begins_same (opens b.language (Symbol s)) (may_be_empty (b.language.rules s)) false (tokens x) symbol.1
       (begins_wider (opens b.language (b.language.rules s)) (opens b.language (Symbol s)) (may_be_empty (b.language.rules s)) (tokens x)
-          (λ t. has_subset (starts b.language.firsts (b.language.rules s)) (b.language.firsts s) (b.language.class_of t) symbol.5)
-          (derivation_starts x symbol.0 h))
+      (λ t. has_subset (starts b.language.firsts (b.language.rules s)) (b.language.firsts s) (b.language.class_of t) symbol.5)
+      (derivation_starts x symbol.0 h))
 
   closes_both : (r c : Rule T S) (t : T) → (closes b c t || (may_be_empty c && closes b r t)) ≡ true → closes b (Both r c) t ≡ true
   closes_both r c t h = by (may_be_empty c) refl
@@ -284,13 +284,13 @@ module _ {T S : Type 0} (b : Bounds T S) (all_fit : Fits b) where
       let parts = pair_parts x y h in
       closes_both r c t
       (ends_both (opens b.language c) (goes_on b.language y t) (goes_on b.language x t) (closes b c t) (closes b r t) (may_be_empty c)
-          (derivation_ends y t fit.1 parts.1) (derivation_ends x t fit.0 parts.0) (tokens y) (derivation_starts y fit.1 parts.1) g)
+      (derivation_ends y t fit.1 parts.1) (derivation_ends x t fit.0 parts.0) (tokens y) (derivation_starts y fit.1 parts.1) g)
   derivation_ends (first {a = r} {b = c} x) t f h g = closes_first r c t (derivation_ends x t (either_fits r c f).0 h g)
   derivation_ends (second {a = r} {b = c} y) t f h g =
       let fit = either_fits r c f in
       closes_second r c t
       (ends_both (opens b.language c) (goes_on b.language y t) (opens b.language r t) (closes b c t) (opens b.language r t) (may_be_empty c)
-          (derivation_ends y t fit.1 h) (λ k. k) (tokens y) (derivation_starts y fit.1 h) g)
+      (derivation_ends y t fit.1 h) (λ k. k) (tokens y) (derivation_starts y fit.1 h) g)
   derivation_ends (none {a = r}) t f h g = has_right (ends b.language.firsts b.lasts r) (starts b.language.firsts r) (b.language.class_of t) g
   derivation_ends (more {a = r} x xs) t f h g =
       let parts = pair_parts x xs h in

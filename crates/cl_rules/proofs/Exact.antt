@@ -1,9 +1,9 @@
 -- What is read is told by the grammar alone: one member at most, and one place and kind of a stop.
 use Rattle.std.proofs.Common.{◌≡◌, ◌+◌, ◌<◌, ◌≤◌, ℕ, suc, true, List, [], ◌∷◌, ◌++◌, length, Result, Ok, Err, refl, sym, ap, subst, ◌∙◌, append_assoc, length-append, inl, inr, arith}
-use Rattle.std.specs.Prelude.{◌⊎◌, max}
+use Rattle.std.specs.Prelude.{max}
 use Rattle.std.proofs.lemmas.List.{append-nil}
-use Rattle.cl_rules.specs.Rules.{Grammar, IsGrammar, Kind, Syntax, TooDeep, Parser, Spells, GoesPast, Front, IsFront, Refuses, IfDeep, Stops, Reads, IsRule}
-use Rattle.cl_rules.proofs.Laws.{cut, ok, err, ok_is, not_both}
+use Rattle.cl_rules.specs.Rules.{Grammar, IsGrammar, Kind, Syntax, TooDeep, Parser, GoesPast, Front, IsFront, Refuses, Stops, IsRule}
+use Rattle.cl_rules.proofs.Laws.{cut, err, ok_is, not_both}
 
 module _ {T A : Type 0} {g : Grammar T A} (laws : IsGrammar g) (n : ℕ) where
   front_of : (seen : List T) → 0 < length seen → IsFront g n seen → Front g n seen

@@ -1,16 +1,16 @@
 -- A grammar that fits is read rightly, at every nesting.
-use Rattle.std.proofs.Common.{◌≡◌, ◌+◌, ◌<◌, ◌≤◌, ℕ, zero, suc, max, Bool, true, false, not, cond, List, [], ◌∷◌, ◌++◌, length, Option, Some, None, is_some}
-use Rattle.std.proofs.Common.{refl, sym, ap, subst, ◌∙◌, append_assoc, inl, inr, arith}
+use Rattle.std.proofs.Common.{◌≡◌, ℕ, zero, suc, max, Bool, true, false, not, cond, List, [], ◌∷◌, ◌++◌, Option, Some, None, is_some}
+use Rattle.std.proofs.Common.{refl, sym, ap, ◌∙◌, append_assoc, inl, inr, arith}
 use Rattle.std.specs.Prelude.{◌⊎◌, ◌&&◌, ◌||◌, nat_lt}
-use Rattle.std.proofs.lemmas.Bool.{and_parts, and_from, both_ways, not-true, or_cases}
-use Rattle.cl_rules.specs.Rules.{Grammar, begins, clear, is_empty, Parser, IsRule, IsGrammar, Companion, IsMade, IsSame, IsTold, IsTestOf, Opens, IsBelow}
-use Rattle.cl_rules.specs.Rules.{one, one_grammar, nothing, nothing_grammar, both, both_grammar, either, either_grammar, many, many_grammar, many_tokens, many_member, many_nesting, many_reach, many_goes_on, counted, counted_grammar, made}
+use Rattle.std.proofs.lemmas.Bool.{and_parts, and_from}
+use Rattle.cl_rules.specs.Rules.{clear, is_empty, IsRule, Companion, IsMade, IsSame, Opens, IsBelow}
+use Rattle.cl_rules.specs.Rules.{one, one_grammar, nothing_grammar, both_grammar, either_grammar, many_grammar, many_tokens, many_member, many_nesting, many_reach, many_goes_on, counted_grammar}
 use Rattle.cl_rules.specs.Syntax.{Rule, Token, Nothing, Both, Either, Many, Counted, Symbol, Derivation, leaf, empty, pair, first, second, none, more, part, node}
-use Rattle.cl_rules.specs.Syntax.{tokens, nesting, reach, has, subset, apart, may_be_empty, starts, Language, opens, goes_on, derives}
+use Rattle.cl_rules.specs.Syntax.{tokens, nesting, reach, has, apart, may_be_empty, starts, opens, goes_on, derives}
 use Rattle.cl_rules.specs.Syntax.{Readers, accept, to_empty, to_pair, to_choice, to_row, next_below, read, at_height, levels, reader, reads}
-use Rattle.cl_rules.specs.Fit.{ends, Bounds, closes, grammar, stands_behind, is_blank, empty_fits, fits, names_only, begins_only, lesser, Fits, sample_of, blank}
+use Rattle.cl_rules.specs.Fit.{ends, Bounds, closes, grammar, stands_behind, is_blank, fits, names_only, begins_only, lesser, Fits, sample_of, blank}
 use Rattle.cl_rules.proofs.Laws.{one_is, nothing_is, both_is, member_both, made_is, either_is, many_is, counted_is, companion, ends_clear}
-use Rattle.cl_rules.proofs.Bounds.{has_left, has_right, has_parts, has_subset, has_apart, symbol_parts, both_fits, either_fits, many_fits, pair_parts, derivation_ends, grammar_laws}
+use Rattle.cl_rules.proofs.Bounds.{has_parts, has_subset, has_apart, symbol_parts, both_fits, either_fits, many_fits, grammar_laws}
 
 -- ---- a token
 
@@ -72,7 +72,7 @@ module _ {T S : Type 0} (b : Bounds T S) (all_fit : Fits b) where
       let fit = both_fits b all_fit r c f in
       let clean = apart (starts b.language.firsts c) (ends b.language.firsts b.lasts r) in
       let parts = and_parts (is_blank b (blank b.language.rules r)) clean
-          (sym (ap (λ (d : Bool). cond d (is_blank b (blank b.language.rules r) && clean) true) e) ∙ fit.3) in
+      (sym (ap (λ (d : Bool). cond d (is_blank b (blank b.language.rules r) && clean) true) e) ∙ fit.3) in
       by (blank b.language.rules r) fit.0 parts.0 (has_apart (starts b.language.firsts c) (ends b.language.firsts b.lasts r) (b.language.class_of t) parts.1 h)
     where
       by : (n : Option (Derivation b.language.rules r)) → fits b r ≡ true → is_blank b n ≡ true → closes b r t ≡ false → Opens (grammar b (Both r c)) t
@@ -319,7 +319,7 @@ module _ {T S : Type 0} (b : Bounds T S) (all_fit : Fits b) where
       let only = and_parts (names_only these r) (names_only these c) m in
       made_is (choice_made r c) (grammar_laws b all_fit (Either r c) f)
       (either_is (record { filled = fit.2; first = λ t h. h; second = λ t h. has_apart (starts b.language.firsts c) (starts b.language.firsts r) (b.language.class_of t) fit.3 h })
-          (rule_is r fit.0 these only.0 n here below good lower) (rule_is c fit.1 these only.1 n here below good lower))
+      (rule_is r fit.0 these only.0 n here below good lower) (rule_is c fit.1 these only.1 n here below good lower))
   rule_is (Many r) f these m n here below good lower =
       let fit = many_fits b all_fit r f in
       made_is (row_made r) (grammar_laws b all_fit (Many r) f)
@@ -328,7 +328,7 @@ module _ {T S : Type 0} (b : Bounds T S) (all_fit : Fits b) where
       let fit = many_fits b all_fit r f in
       made_is (part_made r) (grammar_laws b all_fit (Counted r) f)
       (counted_is (record { filled = fit.1; first = λ t h. h }) (opened r fit.0) (grammar_laws b all_fit r fit.0) IsLevel n (next_below below) (level_below n below lower)
-          (λ m level is. rule_is r fit.0 (λ s. true) (names_any r) m level.0 level.1 (λ s k. is.0 s) is.1))
+      (λ m level is. rule_is r fit.0 (λ s. true) (names_any r) m level.0 level.1 (λ s k. is.0 s) is.1))
   rule_is (Symbol s) f these m n here below good lower = made_is (node_made s) (grammar_laws b all_fit (Symbol s) f) (good s m)
 
   -- a symbol of lesser rank is read rightly at this height

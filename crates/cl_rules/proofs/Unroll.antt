@@ -1,8 +1,8 @@
 -- A rule reads by its steps.
-use Rattle.std.proofs.Common.{◌≡◌, ◌-◌, ℕ, zero, suc, Bool, true, false, cond, List, [], ◌∷◌, Result, Ok, Err, refl, sym, ap, ◌∙◌, inl, inr, arith}
-use Rattle.std.specs.Prelude.{◌⊎◌, ◌==◌}
-use Rattle.cl_rules.specs.Rules.{begins, Kind, Syntax, TooDeep, Parser, one, nothing, beside, followed, both, renamed, made, either, to_list}
-use Rattle.cl_rules.specs.Syntax.{Rule, Token, Nothing, Both, Either, Many, Counted, Symbol, Language, opens, accept}
+use Rattle.std.proofs.Common.{◌≡◌, ◌-◌, ℕ, zero, suc, Bool, true, false, cond, List, [], ◌∷◌, Ok, Err, refl, sym, ap, ◌∙◌, inl, inr, arith}
+use Rattle.std.specs.Prelude.{◌==◌}
+use Rattle.cl_rules.specs.Rules.{begins, Syntax, TooDeep, Parser, nothing, beside, followed, both, renamed, to_list}
+use Rattle.cl_rules.specs.Syntax.{Rule, Token, Nothing, Both, Either, Many, Counted, Symbol, Language, opens}
 use Rattle.cl_rules.specs.Fit.{Bounds, fits, Fits}
 use Rattle.cl_rules.specs.Values.{Parts, Meaning, values, before_rest, built}
 use Rattle.cl_rules.specs.Unroll.{Step, onwards, unroll}
@@ -43,7 +43,7 @@ module _ {T S : Type 0} (l : Language T S) (m : Meaning l.rules) where
       ap (λ z. onwards z go) (both_values l m n a b ts)
       ∙ onwards_both (values l m n a) (values l m n b) ts go
       ∙ onwards_same (values l m n a ts) (λ x us. onwards (values l m n b us) (λ y vs. go (x, y) vs)) (λ x us. unroll l m b n us (λ y vs. go (x, y) vs))
-          (λ x us. unrolls b n us (λ y vs. go (x, y) vs))
+      (λ x us. unrolls b n us (λ y vs. go (x, y) vs))
       ∙ unrolls a n ts (λ x us. unroll l m b n us (λ y vs. go (x, y) vs))
   unrolls {B} (Either a b) n ts go =
       ap (λ z. onwards z go) (either_values l m n a b ts)

@@ -1,12 +1,12 @@
 -- How values are read, rule by rule: what functions that read go by.
-use Rattle.std.proofs.Common.{◌≡◌, ◌+◌, ◌-◌, ◌<◌, ◌≤◌, ℕ, zero, suc, Bool, true, false, cond, List, [], ◌∷◌, ◌++◌, length, Option, Some, None, Result, Ok, Err, take}
-use Rattle.std.proofs.Common.{refl, sym, ap, subst, ◌∙◌, length-append, inl, inr, arith}
-use Rattle.std.specs.Prelude.{◌⊎◌, ◌&&◌}
+use Rattle.std.proofs.Common.{◌≡◌, ◌+◌, ◌-◌, ◌≤◌, ℕ, suc, Bool, true, false, cond, List, ◌++◌, length, Result, Ok, Err, take}
+use Rattle.std.proofs.Common.{refl, sym, ap, ◌∙◌, length-append, inl, inr, arith}
+use Rattle.std.specs.Prelude.{◌⊎◌}
 use Rattle.std.proofs.Math.Seq.{take-append_seam}
-use Rattle.cl_rules.specs.Rules.{begins, Kind, Syntax, TooDeep, Parser, taken, one, nothing, beside, followed, both, renamed, made, either, to_list, many, counted}
-use Rattle.cl_rules.specs.Syntax.{Rule, Token, Nothing, Both, Either, Many, Counted, Symbol, Derivation, leaf, empty, pair, first, second, none, more, part, node, tokens, Language, opens}
-use Rattle.cl_rules.specs.Syntax.{accept, to_empty, to_pair, to_choice, to_row, read, at_height, levels, reads}
-use Rattle.cl_rules.specs.Fit.{Bounds, fits, Fits, grammar}
+use Rattle.cl_rules.specs.Rules.{begins, Kind, Syntax, TooDeep, Parser, one, nothing, beside, followed, both, renamed, made, either, to_list, many}
+use Rattle.cl_rules.specs.Syntax.{Rule, Token, Nothing, Both, Either, Many, Counted, Symbol, Derivation, leaf, part, node, tokens, Language, opens}
+use Rattle.cl_rules.specs.Syntax.{accept, to_pair, to_choice, to_row, reads}
+use Rattle.cl_rules.specs.Fit.{Bounds, fits, Fits}
 use Rattle.cl_rules.specs.Values.{Parts, Meaning, value, values, before_rest, built}
 use Rattle.cl_rules.proofs.Laws.{many_unrolls, renamed_ok}
 use Rattle.cl_rules.proofs.Bounds.{many_fits, symbol_parts}
@@ -116,7 +116,7 @@ module _ {T S : Type 0} (b : Bounds T S) (all_fit : Fits b) (m : Meaning b.langu
       ∙ ap (λ z. renamed to_list (cond (begins (opens b.language a) false ts) (renamed inl z) (renamed inr (nothing ts))))
       (renamed_both (value m) (λ xs. value m (to_row xs)) (λ x. (value m x.0, value m (to_row x.1))) (λ x. refl) p (many (opens b.language a) p) ts
       ∙ both_same (made (value m) p) (made (λ xs. value m (to_row xs)) (many (opens b.language a) p)) (made (value m) (made to_row (many (opens b.language a) p))) ts
-          (λ mid. sym (renamed_twice to_row (value m) (λ xs. value m (to_row xs)) (λ x. refl) (many (opens b.language a) p mid))))
+      (λ mid. sym (renamed_twice to_row (value m) (λ xs. value m (to_row xs)) (λ x. refl) (many (opens b.language a) p mid))))
     where
       some : (r : Result ((Derivation b.language.rules a × List (Derivation b.language.rules a)) × List T) (Kind × List T)) →
           renamed (value m) (renamed to_row (renamed to_list (renamed inl r))) ≡ renamed to_list (renamed inl (renamed (λ x. (value m x.0, value m (to_row x.1))) r))

@@ -1,8 +1,8 @@
 -- When the next token always tells how to go on: a test that computes, of a whole grammar. (Aho, Sethi and Ullman, "Compilers", 4.4: LL(1)
 -- grammars; that of two parts the first goes on where both could, as at an `else`: this project.)
-use Rattle.std.specs.Prelude.{◌≡◌, ℕ, Bool, true, false, not, ◌&&◌, if◌then◌else◌, nat_lt, zero, suc, List, [], ◌∷◌, ◌++◌, Option, Some, None, is_some}
+use Rattle.std.specs.Prelude.{◌≡◌, ℕ, Bool, true, false, not, ◌&&◌, if◌then◌else◌, nat_lt, zero, suc, List, [], ◌++◌, Option, Some, None}
 use Rattle.cl_rules.specs.Rules.{clear, is_empty, Grammar}
-use Rattle.cl_rules.specs.Syntax.{Rule, Token, Nothing, Both, Either, Many, Counted, Symbol, Derivation, leaf, empty, pair, first, second, none, more, part, node}
+use Rattle.cl_rules.specs.Syntax.{Rule, Token, Nothing, Both, Either, Many, Counted, Symbol, Derivation, leaf, empty, pair, first, second, none, part, node}
 use Rattle.cl_rules.specs.Syntax.{tokens, nesting, reach, has, subset, apart, may_be_empty, starts, Language, opens, goes_on, derives}
 
 -- ---- a derivation by each rule

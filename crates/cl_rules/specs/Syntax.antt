@@ -2,7 +2,7 @@
 -- repetition and option: ISO/IEC 9899:1999, 6.1, and ISO/IEC 14977; the rest: this project.)
 use Rattle.std.specs.Prelude.{ℕ, zero, suc, max, ◌-◌, ◌==◌, ◌⊎◌, Bool, true, false, not, ◌&&◌, ◌||◌, if◌then◌else◌, List, [], ◌∷◌, ◌++◌, length, Option, Some, None, Err}
 use Rattle.std.proofs.Common.{inl, inr}
-use Rattle.cl_rules.specs.Rules.{Grammar, Syntax, Parser, begins, clear, is_empty, one, nothing, both, made, either, many, counted, one_deeper}
+use Rattle.cl_rules.specs.Rules.{Syntax, Parser, clear, is_empty, one, nothing, both, made, either, many, counted, one_deeper}
 
 -- ---- rules
 

@@ -1,6 +1,6 @@
 -- A rule's reading written out as steps, one token, symbol or list at a time: what a function that reads by recursive descent goes by.
 -- (This project.)
-use Rattle.std.specs.Prelude.{ℕ, ◌-◌, ◌==◌, if◌then◌else◌, false, List, [], ◌∷◌, Result, Ok, Err}
+use Rattle.std.specs.Prelude.{ℕ, ◌-◌, ◌==◌, if◌then◌else◌, false, List, Result, Ok, Err}
 use Rattle.std.proofs.Common.{inl, inr}
 use Rattle.cl_rules.specs.Rules.{begins, Kind, Syntax, TooDeep, one}
 use Rattle.cl_rules.specs.Syntax.{Rule, Token, Nothing, Both, Either, Many, Counted, Symbol, Language, opens, accept}

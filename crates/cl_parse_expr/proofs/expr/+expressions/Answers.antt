@@ -40,4 +40,3 @@ more_fields-loop-alloc-preserved t c =
 
 pub more_fields-returns : goal.more_fields-returns
 more_fields-returns t c = c.loop-alloc.invariant ∙ field_last c.args.nesting c.loop-alloc.all (plain_tokens c.loop-alloc.rest.now) (sym c.begins.ensures ∙ c.loop-alloc-test.false)
-
