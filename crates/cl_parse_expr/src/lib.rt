@@ -6,6 +6,8 @@ mod expr;
 mod failure;
 mod nodes;
 mod public;
+#[cfg(test)]
+mod tests;
 mod tokens;
 
 pub use failure::Failure;

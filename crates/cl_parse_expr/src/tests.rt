@@ -1,5 +1,5 @@
 use super::*;
-use cl_ast::{Expr, Mark, ParseEnd, Span, Token, TokenKind};
+use cl_ast::{Mark, ParseEnd, Span, Token, TokenKind};
 use std::alloc::{AllocError, Global};
 use std::process::Abort;
 use std::test::Fail;
@@ -43,31 +43,7 @@ fn check_nesting(rt: &impl Abort, alloc: Global) -> Result<(), Fail> {
     Ok(())
 }
 
-fn check_chain(rt: &impl Abort, alloc: Global) -> Result<(), Fail> {
-    let minus = || token(TokenKind::Mark(Mark::Minus));
-    let tokens = [
-        token(TokenKind::Int(3)),
-        minus(),
-        token(TokenKind::Int(2)),
-        minus(),
-        token(TokenKind::Int(1)),
-    ];
-    match expression(alloc, &tokens, 0, 0) {
-        Ok((Expr::Chain(chain), end)) => {
-            assert!(rt; chain.others.len() == 2);
-            assert!(rt; end == 5);
-        }
-        _ => assert!(rt; false),
-    }
-    Ok(())
-}
-
 #[test]
 fn nesting_is_limited(rt: HostRuntime) -> Result<(), Fail> {
     check_nesting(&rt, rt.alloc())
-}
-
-#[test]
-fn a_chain_has_all_operands(rt: HostRuntime) -> Result<(), Fail> {
-    check_chain(&rt, rt.alloc())
 }
