@@ -1,1 +1,4 @@
+pub mod Fits
+pub mod Marks
+pub mod Rows
 pub mod TokenRows

@@ -1,10 +1,14 @@
 pub mod Bytes
+pub mod Classes
 pub mod Ends
 pub mod Faults
+pub mod Grammar
 pub mod Lexemes
 pub mod Pieces
 pub mod Plain
 pub mod Room
 pub mod Rows
 pub mod Splits
+pub mod Tables
 pub mod Views
+pub mod Trees

@@ -1,21 +1,33 @@
-//! Tokens, and the definition of how bytes split into them.
+//! Tokens and trees, and the grammar of the language.
 //!
-//! The types are those that the lexer gives and the parser takes. `specs/` has the grammar of tokens over
-//! plain bytes. The crate has no calls but those of its list.
+//! The types are those that the lexer and the parser give. `specs/` has the grammar over plain tokens and the
+//! trees that its parts mean. The crate has no calls but those of its list.
 #![tactic(auto)]
 
 mod fault;
 mod items;
 mod mark;
+mod parse_end;
 mod span;
+mod statement;
 #[cfg(test)]
 mod tests;
 mod token;
+mod tree;
 mod word;
 
 pub use fault::LexKind;
 pub use items::{Items, NoMemory};
 pub use mark::{MARKS, Mark};
+pub use parse_end::ParseEnd;
 pub use span::Span;
+pub use statement::{
+    Assign, Block, Change, Declarator, Define, Do, For, Form, Function, If, Item, Parameter, Print,
+    Return, Size, Stmt, Variables, While,
+};
 pub use token::{Token, TokenKind};
+pub use tree::{
+    Call, Chain, Constant, Expr, Field, Formal, Link, Literal, Name, Operation, Operator, Place,
+    Prefix, Text, TypeName, Verb,
+};
 pub use word::{RESERVED, WORDS, Word};

@@ -1,0 +1,4 @@
+pub mod Classes
+pub mod Expression
+pub mod Readings
+pub mod Steps

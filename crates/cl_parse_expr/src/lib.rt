@@ -1,0 +1,14 @@
+//! Expressions: from tokens to their trees, by recursive descent.
+#![tactic(auto)]
+
+mod class;
+mod expr;
+mod failure;
+mod nodes;
+mod public;
+#[cfg(test)]
+mod tests;
+mod tokens;
+
+pub use failure::Failure;
+pub use public::{MAX_NESTING, expression};

@@ -1,0 +1,5 @@
+pub mod Rules
+pub mod Syntax
+pub mod Fit
+pub mod Values
+pub mod Unroll
