@@ -1,9 +1,9 @@
 -- Facts about a list that has one tuple a number of times.
-use Rattle.std.proofs.Common.{◌≡◌, ℕ, zero, suc, ◌+◌, ◌-◌, ◌<◌, true, List, [], ◌∷◌, ◌++◌, length, replicate, Option, Some, None, refl, sym, ◌∙◌, ap, arith}
+use Rattle.std.proofs.Common.{◌≡◌, ℕ, zero, suc, ◌+◌, ◌-◌, ◌<◌, true, List, [], ◌∷◌, ◌++◌, replicate, Some, refl, sym, arith}
 use Rattle.std.proofs.lemmas.List.{replicate_more}
 use Rattle.cl_store.proofs.Matches.{first_match-yes}
 use Rattle.cl_store.proofs.Same.{same_tuple-is}
-use Rattle.cl_value.specs.Matching.{matches, same_tuple, same_value}
+use Rattle.cl_value.specs.Matching.{matches, same_tuple}
 use Rattle.cl_value.specs.Replay.{first_match, found, without_first}
 use Rattle.cl_value.specs.declared.value.Value.{Value}
 use Rattle.cl_value.specs.declared.template.Slot.{Slot}

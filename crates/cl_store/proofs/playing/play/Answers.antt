@@ -1,11 +1,10 @@
-use Rattle.std.proofs.Common.{◌≡◌, ◌+◌, ◌<◌, [], ◌∷◌, ◌++◌, length, map, drop, length-append, arith, ap, sym, ◌∙◌, subst, get_or, IsTrue, ℕ, List, All, Contains, refl}
+use Rattle.std.proofs.Common.{◌≡◌, ◌+◌, [], ◌∷◌, ◌++◌, length, map, drop, length-append, arith, ap, sym, ◌∙◌, subst, IsTrue, List, All, Contains, refl}
 use Rattle.std.proofs.lemmas.List.{map-append}
 use Rattle.std.proofs.lemmas.List.Elements.{All-weaker, All-contains_itself, Contains-append_left, Contains-append_right}
 use Rattle.cl_value.specs.Views.{plain_ask, plain_what}
 use Rattle.cl_value.specs.Replay.{replayed}
 use Rattle.cl_value.specs.declared.value.Value.{Value}
-use Rattle.cl_value.specs.declared.template.Slot.{Slot}
-use Rattle.cl_store.specs.Answers.{answer, answers, left_after, tuple_of, tuples_of, template_of, templates_of, IsStoreAsk}
+use Rattle.cl_store.specs.Answers.{answer, tuple_of, tuples_of, IsStoreAsk}
 use Rattle.cl_store.proofs.Played.{All-ask, All-tuple_of, All-template_of, drop-next, All-replayed, answers-next, left_after-push, no_landing}
 use Rattle.cl_store.proofs.playing.play.Goals as goal
 
