@@ -124,10 +124,22 @@ fn asks_are_played(rt: HostRuntime) -> Result<(), Fail> {
     let alloc = rt.alloc();
     let mut asks = Items::new(alloc);
     put(&mut asks, Ask::Out(single(alloc, 5)?))?;
-    put(&mut asks, Ask::Rd(template_of(alloc, Slot::Actual(Value::Int(5)))?))?;
-    put(&mut asks, Ask::Inp(template_of(alloc, Slot::Actual(Value::Int(6)))?))?;
-    put(&mut asks, Ask::In(template_of(alloc, Slot::Formal(FieldType::Int))?))?;
-    put(&mut asks, Ask::Rdp(template_of(alloc, Slot::Formal(FieldType::Int))?))?;
+    put(
+        &mut asks,
+        Ask::Rd(template_of(alloc, Slot::Actual(Value::Int(5)))?),
+    )?;
+    put(
+        &mut asks,
+        Ask::Inp(template_of(alloc, Slot::Actual(Value::Int(6)))?),
+    )?;
+    put(
+        &mut asks,
+        Ask::In(template_of(alloc, Slot::Formal(FieldType::Int))?),
+    )?;
+    put(
+        &mut asks,
+        Ask::Rdp(template_of(alloc, Slot::Formal(FieldType::Int))?),
+    )?;
     check_plays::<Brand>(&rt, alloc, &asks, Blank::new(1))
 }
 

@@ -1,4 +1,4 @@
-use Rattle.std.proofs.Common.{◌≡◌, List, [], ◌∷◌, ◌++◌, map, All, ap, sym, ◌∙◌, subst}
+use Rattle.std.proofs.Common.{List, [], ◌∷◌, ◌++◌, map, All, ap, sym, ◌∙◌, subst}
 use Rattle.cl_store.proofs.Played.{All-asks-push}
 use Rattle.cl_store.specs.Answers.{IsStoreAsk}
 use Rattle.cl_value.specs.Views.{plain_ask}

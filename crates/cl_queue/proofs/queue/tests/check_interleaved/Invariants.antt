@@ -1,10 +1,7 @@
-use Rattle.std.proofs.Common.{◌≡◌, [], ◌∷◌, true}
+use Rattle.std.proofs.Common.{◌≡◌, true}
 use Rattle.std.specs.List.{list_all}
 use Rattle.cl_value.specs.Matching.{matches}
 use Rattle.cl_value.specs.Room.{HasRoom}
-use Rattle.cl_value.specs.declared.value.FieldType.TheVariants as types
-use Rattle.cl_value.specs.declared.value.Value.TheVariants as values
-use Rattle.cl_value.specs.declared.template.Slot.TheVariants as slots
 use Rattle.cl_queue.proofs.queue.tests.check_interleaved.Given as goal
 
 abbrev pub invariant-loop-number : goal.invariant-loop-number
