@@ -1,0 +1,11 @@
+pub mod Filters
+pub mod Numbers
+pub mod Keys
+pub mod Finds
+pub mod Lines
+pub mod Held
+pub mod Places
+pub mod Swaps
+pub mod Asked
+pub mod Rooms
+pub mod Keeps
