@@ -147,3 +147,6 @@ impl TupleStore for Keyed {
         self.count
     }
 }
+
+#[cfg(test)]
+mod tests;
