@@ -8,7 +8,7 @@ use Rattle.cl_keyed.proofs.Asked.{found-nowhere}
 use Rattle.cl_value.specs.Room.{Room}
 use Rattle.cl_value.specs.declared.value.Value.{Value}
 use Rattle.cl_keyed.specs.Rows.{Row, content_of, Holds}
-use Rattle.cl_keyed.specs.Tables.{Lines, RoomFor}
+use Rattle.cl_keyed.specs.Tables.{Lines, Full, RoomFor}
 use Rattle.cl_keyed.specs.Keeping.{Stands, ReadyStands}
 use Rattle.cl_keyed.specs.declared.key.Key.{Key}
 use Rattle.cl_keyed.specs.declared.keyed.Ready.{Ready}
@@ -19,12 +19,13 @@ ready-kept added (Some ready) table new fresh next kept room = (room.0, kept rea
 
 -- after room was made
 pub stands-kept : (field added count : ℕ) (table new : Lines) (fresh next : Room Row) (ready : Option Ready) → Stands field added count table fresh ready
-    → ((n : ℕ) → content_of n new.lines ≡ content_of n table.lines) → ((f n : ℕ) → Holds f n table.lines → Holds f n new.lines) → next.items ≡ fresh.items
+    → ((n : ℕ) → content_of n new.lines ≡ content_of n table.lines) → ((f n : ℕ) → Holds f n table.lines → Holds f n new.lines) → (Full table.lines → Full new.lines) → next.items ≡ fresh.items
     → ((k : Key) (place : Option ℕ) → RoomFor k place table fresh → RoomFor k place new next)
     → Stands field added count new next ready
-stands-kept field added count table new fresh next ready stands content holds items kept =
+stands-kept field added count table new fresh next ready stands content holds full items kept =
     record {
       holds = holds field added stands.holds;
+      full = full stands.full;
       counted = stands.counted ∙ sym (ap length (content added));
       few = stands.few;
       empty = items ∙ stands.empty;
@@ -35,17 +36,18 @@ stands-kept field added count table new fresh next ready stands content holds it
 pub stands-ready : (field added count : ℕ) (table : Lines) (fresh : Room Row) (ready : Option Ready) (k : Key) (place : Option ℕ) → Stands field added count table fresh ready → added < 2 ^ 64 - 1 → RoomFor k place table fresh
     → Stands field added count table fresh (Some (record { key = k; place = place }))
 stands-ready field added count table fresh ready k place stands below room =
-    record { holds = stands.holds; counted = stands.counted; few = stands.few; empty = stands.empty; room = (below, room) }
+    record { holds = stands.holds; full = stands.full; counted = stands.counted; few = stands.few; empty = stands.empty; room = (below, room) }
 
 -- after a tuple was added
 pub stands-added : (field added count : ℕ) (table new : Lines) (fresh next : Room Row) (ready : Option Ready) (t : List Value) → Stands field added count table fresh ready
-    → content_of (added + 1) new.lines ≡ content_of added table.lines ++ t ∷ [] → Holds field (added + 1) new.lines → next.items ≡ []
+    → content_of (added + 1) new.lines ≡ content_of added table.lines ++ t ∷ [] → Holds field (added + 1) new.lines → (Full table.lines → Full new.lines) → next.items ≡ []
     → Stands field (added + 1) (count + 1) new next None
-stands-added field added count table new fresh next ready t stands content holds items =
+stands-added field added count table new fresh next ready t stands content holds full items =
     let few : count ≤ added = stands.few in
     let more : length (content_of (added + 1) new.lines) ≡ length (content_of added table.lines) + 1 = ap length content ∙ length-append (content_of added table.lines) (t ∷ []) in
     record {
       holds = holds;
+      full = full stands.full;
       counted = ap (λ c. c + 1) stands.counted ∙ sym more;
       few = omega arith;
       empty = items;
@@ -62,14 +64,15 @@ fewer ts m t at =
 
 -- after a tuple was taken
 pub stands-taken : (field added count : ℕ) (table new : Lines) (fresh : Room Row) (ready : Option Ready) (m : List Slot) (t : List Value) → Stands field added count table fresh ready → found (content_of added table.lines) m ≡ Some t
-    → (content_of added new.lines ≡ without_first (content_of added table.lines) m) × Holds field added new.lines
+    → (content_of added new.lines ≡ without_first (content_of added table.lines) m) × Holds field added new.lines → (Full table.lines → Full new.lines)
     → Stands field added (count - 1) new fresh None
-stands-taken field added count table new fresh ready m t stands at left =
+stands-taken field added count table new fresh ready m t stands at left full =
     let few : count ≤ added = stands.few in
     let counted : count ≡ length (content_of added table.lines) = stands.counted in
     let less : length (content_of added new.lines) + 1 ≡ length (content_of added table.lines) = ap (λ ts. length ts + 1) left.0 ∙ fewer (content_of added table.lines) m t at in
     record {
       holds = left.1;
+      full = full stands.full;
       counted = omega arith;
       few = omega arith;
       empty = stands.empty;

@@ -8,4 +8,5 @@ pub mod Places
 pub mod Swaps
 pub mod Asked
 pub mod Rooms
+pub mod Fulls
 pub mod Keeps

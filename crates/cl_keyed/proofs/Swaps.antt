@@ -35,14 +35,14 @@ split-at (y ∷ xs) (suc i) x h =
     (y ∷ ys, (zs, (ap (λ ws. y ∷ ws) split, ap suc at)))
 
 -- where the last item goes
-swap_remove-last : {A : Type 0} (xs : List A) (x : A) → swap_remove (xs ++ x ∷ []) (length xs) x ≡ xs
+pub swap_remove-last : {A : Type 0} (xs : List A) (x : A) → swap_remove (xs ++ x ∷ []) (length xs) x ≡ xs
 swap_remove-last xs x =
     let count : length (xs ++ x ∷ []) - 1 ≡ length xs = omega (arith, length-append xs (x ∷ [])) in
     let e : swap_remove (xs ++ x ∷ []) (length xs) x ≡ take (length (xs ++ x ∷ []) - 1) (xs ++ get_or (xs ++ x ∷ []) (length (xs ++ x ∷ []) - 1) x ∷ []) = ap (take (length (xs ++ x ∷ []) - 1)) (set-at xs [] x (get_or (xs ++ x ∷ []) (length (xs ++ x ∷ []) - 1) x)) in
     e ∙ (ap (λ n. take n (xs ++ get_or (xs ++ x ∷ []) (length (xs ++ x ∷ []) - 1) x ∷ [])) count ∙ take-front xs (get_or (xs ++ x ∷ []) (length (xs ++ x ∷ []) - 1) x ∷ []))
 
 -- where another goes, and the last takes its place
-swap_remove-other : {A : Type 0} (xs ys : List A) (x z : A) → swap_remove (xs ++ x ∷ (ys ++ z ∷ [])) (length xs) x ≡ xs ++ z ∷ ys
+pub swap_remove-other : {A : Type 0} (xs ys : List A) (x z : A) → swap_remove (xs ++ x ∷ (ys ++ z ∷ [])) (length xs) x ≡ xs ++ z ∷ ys
 swap_remove-other {A} xs ys x z =
     let whole : List A = xs ++ x ∷ (ys ++ z ∷ []) in
     let parts : whole ≡ (xs ++ x ∷ ys) ++ z ∷ [] = sym (append_assoc xs (x ∷ ys) (z ∷ [])) in
@@ -102,7 +102,7 @@ dropped field n xs ys line empty holds =
         right ∙ (ap (λ rows. filter p us ++ rows) (sym (append-swap (filter p bs) (filter p cs) count)) ∙ sym left)
 
 -- the list at a place with its key
-pair-at : (lines : List (Key × Room Row)) (i : ℕ) (w : Room Row) → slice_get (values_of lines) i ≡ Some w → (p : Key × Room Row) × ((slice_get lines i ≡ Some p) × (p.1 ≡ w))
+pub pair-at : (lines : List (Key × Room Row)) (i : ℕ) (w : Room Row) → slice_get (values_of lines) i ≡ Some w → (p : Key × Room Row) × ((slice_get lines i ≡ Some p) × (p.1 ≡ w))
 pair-at [] i w h = cc
 pair-at (line ∷ lines) zero w h = let same : line.1 ≡ w = cc in (line, (refl, same))
 pair-at (line ∷ lines) (suc i) w h = pair-at lines i w h

@@ -4,7 +4,7 @@ use Rattle.cl_value.specs.Room.{Room}
 use Rattle.cl_value.specs.declared.value.Value.{Value}
 use Rattle.cl_keyed.specs.Keys.{is_key}
 use Rattle.cl_keyed.specs.Rows.{Row, content_of, Holds}
-use Rattle.cl_keyed.specs.Tables.{Lines, RoomFor}
+use Rattle.cl_keyed.specs.Tables.{Lines, Full, RoomFor}
 use Rattle.cl_keyed.specs.declared.key.Key.{Key}
 use Rattle.cl_keyed.specs.declared.keyed.Ready.{Ready}
 
@@ -33,6 +33,7 @@ ReadyStands added (Some ready) table fresh = (added < 2 ^ 64 - 1) × RoomFor rea
 -- what the fields of a keyed store mean
 pub record Stands (field added count : ℕ) (table : Lines) (fresh : Room Row) (ready : Option Ready) : Type 0 where
   pub holds : Holds field added table.lines
+  pub full : Full table.lines
   pub counted : count ≡ length (content_of added table.lines)
   pub few : count ≤ added
   pub empty : fresh.items ≡ []

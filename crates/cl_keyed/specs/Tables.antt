@@ -62,3 +62,14 @@ pub record IsFirst (field : ℕ) (m : List Slot) (line row : ℕ) (lines : List 
 abbrev pub RoomFor : Key → Option ℕ → Lines → Room Row → Type 0
 RoomFor k None table fresh = Others k table.lines × (0 < table.spare) × (0 < fresh.spare)
 RoomFor k (Some place) table fresh = (key_in table.lines place ≡ Some k) × (0 < spare_at table.lines place)
+
+-- each list has a tuple
+abbrev pub Full : List (Key × Room Row) → Type 0
+Full [] = Unit {0}
+Full (line ∷ lines) = (0 < length line.1.items) × Full lines
+
+-- each list but the one at a place has a tuple
+abbrev pub FullBut : ℕ → List (Key × Room Row) → Type 0
+FullBut i [] = Unit {0}
+FullBut zero (line ∷ lines) = Full lines
+FullBut (suc i) (line ∷ lines) = (0 < length line.1.items) × FullBut i lines

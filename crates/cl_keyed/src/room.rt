@@ -1,7 +1,7 @@
 ghost use Rattle.std.specs.Prelude.{◌≡◌, ◌+◌, ◌∷◌, ◌++◌, [], ℕ, IsTrue, IfOk, Option};
 ghost use Rattle.cl_keyed.specs.Keys.{has_key};
 ghost use Rattle.cl_keyed.specs.Rows.{content_of, Holds};
-ghost use Rattle.cl_keyed.specs.Tables.{RoomFor};
+ghost use Rattle.cl_keyed.specs.Tables.{Full, RoomFor};
 ghost use Rattle.cl_keyed.specs.declared.key.Key.{Key};
 
 use crate::key::Key;
@@ -16,6 +16,7 @@ use std::mem::replace;
 pub fn room_for(table: &mut Table, fresh: &mut Line, key: Key) -> Result<Option<usize>, NoMemory>
     ensures content { (n : ℕ) → content_of n table.new.lines ≡ content_of n table.old.lines }
     ensures holds { (field n : ℕ) → Holds field n table.old.lines → Holds field n table.new.lines }
+    ensures full { Full table.old.lines → Full table.new.lines }
     ensures fresh { fresh.new.items ≡ fresh.old.items }
     ensures room { IfOk result (λ place. RoomFor key place table.new fresh.new) }
     ensures kept { (k : Key) (place : Option ℕ) → RoomFor k place table.old fresh.old → RoomFor k place table.new fresh.new }
@@ -45,6 +46,7 @@ pub fn put(
     requires empty { fresh.old.items ≡ [] }
     ensures content { (field : ℕ) → Holds field number table.old.lines → IsTrue (has_key field key tuple.items) → content_of (number + 1) table.new.lines ≡ content_of number table.old.lines ++ tuple.items ∷ [] }
     ensures holds { (field : ℕ) → Holds field number table.old.lines → IsTrue (has_key field key tuple.items) → Holds field (number + 1) table.new.lines }
+    ensures full { Full table.old.lines → Full table.new.lines }
     ensures empty { fresh.new.items ≡ [] }
 {
     match place {

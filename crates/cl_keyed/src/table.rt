@@ -38,7 +38,7 @@ impl Table {
     ghost use Rattle.cl_keyed.specs.Keys.{asked_at, has_actual};
     ghost use Rattle.cl_keyed.specs.Rows.{Row, tuple_of, content_of, Holds};
     ghost use Rattle.indexmap.specs.IndexMap.{set_value_at};
-    ghost use Rattle.cl_keyed.specs.Tables.{Lines, tuples_with, StandsAt, Others, IsFirst, items_at, spare_at};
+    ghost use Rattle.cl_keyed.specs.Tables.{Lines, tuples_with, StandsAt, Others, IsFirst, Full, FullBut, items_at, spare_at};
 
     /// No list.
     pub fn new(alloc: Global) -> Table
@@ -112,7 +112,8 @@ impl Table {
     pub fn take_out(&mut self, place: Place)
         requires line { place.line < length self.old.lines }
         requires row { place.row < length (items_at self.old.lines place.line) }
-        ensures { (field n : ℕ) (m : List Slot) → Holds field n self.old.lines → IsFirst field m place.line place.row self.old.lines
+        ensures full { Full self.old.lines → Full self.new.lines }
+        ensures left { (field n : ℕ) (m : List Slot) → Holds field n self.old.lines → IsFirst field m place.line place.row self.old.lines
             → (content_of n self.new.lines ≡ without_first (content_of n self.old.lines) m) × Holds field n self.new.lines }
     {
         self.remove(place.line, place.row);
@@ -181,7 +182,8 @@ impl Table {
     /// order of adding stay.
     fn drop_empty(&mut self, place: usize)
         requires { place < length self.old.lines }
-        ensures { (field n : ℕ) → Holds field n self.old.lines → (content_of n self.new.lines ≡ content_of n self.old.lines) × Holds field n self.new.lines }
+        ensures full { FullBut place self.old.lines → Full self.new.lines }
+        ensures kept { (field n : ℕ) → Holds field n self.old.lines → (content_of n self.new.lines ≡ content_of n self.old.lines) × Holds field n self.new.lines }
     {
         if self.lines[place].is_empty() {
             let _ = self.lines.swap_remove_index(place);

@@ -6,7 +6,8 @@ ghost use Rattle.cl_keyed.specs.Keys.{key_of, key_at, has_actual};
 ghost use Rattle.cl_keyed.specs.declared.key.Key.{Key as Kind};
 
 use super::*;
-use cl_value::{Items, Slot, Value};
+use cl_store::play;
+use cl_value::{Ask, Items, Slot, Value, What};
 use std::marker::Brand;
 use std::process::Abort;
 use std::sync::ledger::Blank;
@@ -131,6 +132,71 @@ fn check_types<S: TupleStore, L: Ledger>(
     }
     assert_eq!(rt; store.len(), 0);
     Ok(())
+}
+
+ghost use Rattle.std.specs.Prelude.{All, OnOk, map, is_some};
+ghost use Rattle.cl_value.specs.Views.{plain_ask};
+ghost use Rattle.cl_store.specs.Answers.{IsStoreAsk, tuple_of as own_tuples, tuples_of, template_of as own_templates, templates_of};
+
+// Puts an ask last that a store of the field 1 answers.
+fn put_ask(asks: &mut Items<Ask>, ask: Ask) -> Result<(), NoMemory>
+    requires asked { All IsStoreAsk (map plain_ask asks.old.items) }
+    requires admits { All (λ t. IsTrue (is_some (key_at 1 t))) (tuples_of (map plain_ask asks.old.items)) }
+    requires fits { All (λ m. IsTrue (has_actual 1 m)) (templates_of (map plain_ask asks.old.items)) }
+    requires own_ask { IsStoreAsk (plain_ask ask) }
+    requires own_tuple { All (λ t. IsTrue (is_some (key_at 1 t))) (own_tuples (plain_ask ask)) }
+    requires own_template { All (λ m. IsTrue (has_actual 1 m)) (own_templates (plain_ask ask)) }
+    ensures asked { OnOk result (All IsStoreAsk (map plain_ask asks.new.items)) }
+    ensures admits { OnOk result (All (λ t. IsTrue (is_some (key_at 1 t))) (tuples_of (map plain_ask asks.new.items))) }
+    ensures fits { OnOk result (All (λ m. IsTrue (has_actual 1 m)) (templates_of (map plain_ask asks.new.items))) }
+{
+    asks.reserve(1)?;
+    asks.push(ask);
+    Ok(())
+}
+
+fn check_plays<L: Ledger>(
+    rt: &impl Abort,
+    alloc: Global,
+    asks: &Items<Ask>,
+    blank: Blank,
+) -> Result<(), Fail>
+    requires asked { All IsStoreAsk (map plain_ask asks.now.items) }
+    requires admits { All (λ t. IsTrue (is_some (key_at 1 t))) (tuples_of (map plain_ask asks.now.items)) }
+    requires fits { All (λ m. IsTrue (has_actual 1 m)) (templates_of (map plain_ask asks.now.items)) }
+    requires name { blank.name ≡ L.name }
+    requires parts { blank.parts ≡ L.parts }
+    requires some { 0 < blank.parts }
+{
+    let mut steps: Steps<L> = Steps::new(blank);
+    let mut store = Keyed::new(alloc, 1);
+    let done = play(alloc, &mut store, asks, &mut steps)?;
+    assert!(rt;
+        matches!(
+            done.as_slice(),
+            [
+                What::Out(_),
+                What::Rd(_, _),
+                What::InpMiss(_),
+                What::In(_, _),
+                What::RdpMiss(_),
+            ]
+        )
+    );
+    assert_eq!(rt; store.len(), 0);
+    Ok(())
+}
+
+#[test]
+fn asks_are_played(rt: HostRuntime) -> Result<(), Fail> {
+    let alloc = rt.alloc();
+    let mut asks = Items::new(alloc);
+    put_ask(&mut asks, Ask::Out(tuple_of(alloc, Key::Int(5))?))?;
+    put_ask(&mut asks, Ask::Rd(template_of(alloc, Key::Int(5))?))?;
+    put_ask(&mut asks, Ask::Inp(template_of(alloc, Key::Int(6))?))?;
+    put_ask(&mut asks, Ask::In(template_of(alloc, Key::Int(5))?))?;
+    put_ask(&mut asks, Ask::Rdp(template_of(alloc, Key::Int(5))?))?;
+    check_plays::<Brand>(&rt, alloc, &asks, Blank::new(1))
 }
 
 #[test]

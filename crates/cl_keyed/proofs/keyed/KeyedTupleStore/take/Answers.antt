@@ -18,7 +18,8 @@ invariant_of-self g c =
     let holds = c.self.invariant.holds in
     stands-taken c.self.inside.field c.self.inside.added c.self.inside.count c.self.inside.table c.take_out.new.self c.self.inside.fresh c.self.inside.ready c.args.template.now.items c.find.new.into.items c.self.invariant
     (c.in-Some.ensures.found c.self.inside.added holds)
-    (c.take_out.ensures c.self.inside.field c.self.inside.added c.args.template.now.items holds c.in-Some.ensures.place)
+    (c.take_out.ensures.left c.self.inside.field c.self.inside.added c.args.template.now.items holds c.in-Some.ensures.place)
+    c.take_out.ensures.full
 
 pub returns-in_default-clause-value : goal.returns-in_default-clause-value
 returns-in_default-clause-value g c =
