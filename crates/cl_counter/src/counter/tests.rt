@@ -1,4 +1,5 @@
 ghost use Rattle.std.specs.Prelude.{◌≡◌, ◌<◌, List, [], ◌∷◌, IsTrue, IfOk};
+ghost use Rattle.cl_value.specs.Matching.{may_stand};
 ghost use Rattle.cl_value.specs.Room.{Room, HasRoom};
 ghost use Rattle.cl_value.specs.declared.value.Value.{Value as Field};
 
@@ -19,6 +20,7 @@ fn single(alloc: Global, value: Value) -> Result<Tuple, NoMemory>
 }
 
 fn template_of(alloc: Global, slot: Slot) -> Result<Template, NoMemory>
+    requires { IsTrue (may_stand slot) }
     ensures { IfOk result (λ m. m.items ≡ slot ∷ []) }
 {
     let mut slots = Items::new(alloc);
