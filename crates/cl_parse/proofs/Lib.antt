@@ -1,0 +1,4 @@
+pub mod Equations
+pub mod Loops
+pub mod Sights
+pub mod Words

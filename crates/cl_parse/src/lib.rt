@@ -1,0 +1,6 @@
+//! Whole sources: from tokens to their trees, by recursive descent.
+#![tactic(auto)]
+
+mod class;
+mod simple;
+mod tokens;
