@@ -2,7 +2,7 @@
 use Rattle.std.specs.Prelude.{◌⊎◌}
 use Rattle.std.proofs.Common.{◌≡◌, ◌-◌, ◌<◌, ℕ, Bool, true, false, cond, List, [], ◌∷◌, Some, None, Ok, Err, refl, sym, ap, ◌∙◌, inl, inr}
 use Rattle.cl_rules.specs.Rules.{renamed}
-use Rattle.cl_rules.specs.Syntax.{Rule, Token, Many, Symbol, ◌⨾◌, ◌∣◌, maybe}
+use Rattle.cl_rules.specs.Syntax.{Rule, Token, Many, Counted, Symbol, ◌⨾◌, ◌∣◌, maybe}
 use Rattle.cl_rules.specs.Values.{values, before_rest}
 use Rattle.cl_rules.specs.Unroll.{Step, onwards}
 use Rattle.cl_rules.proofs.Unroll.{onwards_same, onwards_ok, list_unrolls}
@@ -28,12 +28,13 @@ use Rattle.cl_ast.specs.Grammar.{Row, mark, word, text, body, condition, size, l
 use Rattle.cl_ast.specs.Grammar as parts
 use Rattle.cl_ast.specs.Tables.{language, bounds, firsts, expr_firsts, simple_firsts, plain_firsts, type_firsts}
 use Rattle.cl_ast.specs.Trees.{Index, meaning, to_started, to_typed, to_item, span_of, token_span, kind_change, kind_size, kind_type, is_decrement, behind_marks, to_name, to_literal, to_text, to_maybe, to_call, to_operation, to_step, to_change, to_assign, to_simple, to_body, to_else, to_leave, to_inner, to_given, to_declarator, to_variables, to_parameter, to_params, to_function, to_result, is_there, index_value, place_span}
+use Rattle.cl_ast.proofs.Fits.{grammar_fits}
 use Rattle.cl_parse_expr.specs.Steps.{begins_of, token_of, reading}
 use Rattle.cl_parse_expr.specs.Readings.{refused, arguments_reading}
 use Rattle.cl_parse.specs.Classes.{classes_of}
 use Rattle.cl_parse.specs.declared.class.Class.TheVariants as classes
 use Rattle.cl_parse.specs.Rows.{change_row, changed_row, behind_name_row, started_row, stepped_row, operation_row, formatted_row, print_row, otherwise_row, line_row, if_row, while_row, do_row, head_row, for_row, leave_row, return_row, inner_row, sized_row, valued_row, next_declarator_row, parameter_row, next_parameter_row, parameters_row, define_row, function_row, shared_row, behind_typed_row, typed_row, untyped_row}
-use Rattle.cl_parse.specs.Readings.{is_continue, change_reading, changed_reading, behind_name_reading, started_reading, stepped_reading, operation_reading, print_reading, formatted_reading, condition_reading, body_reading, otherwise_reading, maybe_simple_reading, maybe_expr_reading, empty_reading, line_reading, if_reading, while_reading, do_reading, head_reading, for_reading, leave_reading, return_reading, to_inner_one, inner_reading, inners_reading, sized_reading, valued_reading, declared_reading, next_declarator_reading, declarators_reading, parameter_reading, next_parameter_reading, next_parameters, more_parameters_reading, parameters_reading, sign_reading, define_reading, behind_typed_reading, typed_reading, result_reading, untyped_reading, items_reading}
+use Rattle.cl_parse.specs.Readings.{is_continue, change_reading, changed_reading, behind_name_reading, started_reading, stepped_reading, operation_reading, print_reading, formatted_reading, condition_reading, nested_reading, body_reading, otherwise_reading, maybe_simple_reading, maybe_expr_reading, empty_reading, line_reading, if_reading, while_reading, do_reading, head_reading, for_reading, leave_reading, return_reading, to_inner_one, inner_reading, inners_reading, sized_reading, valued_reading, declared_reading, next_declarator_reading, declarators_reading, parameter_reading, next_parameter_reading, next_parameters, more_parameters_reading, parameters_reading, sign_reading, define_reading, behind_typed_reading, typed_reading, result_reading, untyped_reading, items_reading}
 use Rattle.cl_parse.proofs.Sights.{Sight, raw, token, both, seen, sights, choice, in_rows, part_reads, part_rows, renamed_steps, deeper, too_deep, list_reads}
 
 -- both sides of a choice
@@ -142,7 +143,7 @@ empty_reads n ts = sights token n ts (λ t us. Ok (stmts.Empty (token_span t), u
 pub line_reads : (n : ℕ) (ts : List PlainToken) →
     line_reading n ts ≡ onwards (reading parts.simple n ts) (λ x us. onwards (token_of (mark_class marks.Semicolon ∷ []) us) (λ t vs. Ok (x, vs)))
 unfolding line_reading reading
-line_reads n ts = sights (both raw token) n ts (λ x us. Ok (x.0, us))
+line_reads n ts = sights {r = line_row} (both raw token) n ts (λ x us. Ok (x.0, us))
 
 -- the parts of a statement, each as what it means
 tested : Sight condition
@@ -236,7 +237,7 @@ unfolding condition_reading reading
 condition_reads n ts some =
     renamed_steps (λ x. x.1.0) (values language meaning n condition ts)
     ∙ deeper (mark marks.OpenBracket ⨾ Symbol parts.expr ⨾ mark marks.CloseBracket) n ts (λ x us. Ok (x.1.0, us)) some
-    ∙ sights (both token (both raw token)) (n - 1) ts (λ x us. Ok (x.1.0, us))
+    ∙ sights {r = mark marks.OpenBracket ⨾ Symbol parts.expr ⨾ mark marks.CloseBracket} (both token (both raw token)) (n - 1) ts (λ x us. Ok (x.1.0, us))
 
 pub condition_refused : (ts : List PlainToken) → condition_reading 0 ts ≡ refused (mark_class marks.OpenBracket ∷ []) ts
 unfolding condition_reading
@@ -244,19 +245,21 @@ condition_refused ts =
     renamed_steps (λ x. x.1.0) (values language meaning 0 condition ts)
     ∙ too_deep (mark marks.OpenBracket ⨾ Symbol parts.expr ⨾ mark marks.CloseBracket) ts (λ x us. Ok (x.1.0, us))
 
-pub body_reads : (n : ℕ) (ts : List PlainToken) → 0 < n →
-    body_reading n ts ≡ cond (begins_of (mark_class marks.OpenBrace ∷ []) ts) (onwards (reading parts.block n ts) (λ x us. Ok (stmts.Block x, us))) (reading parts.plain (n - 1) ts)
-unfolding body_reading reading
-body_reads n ts some =
+pub body_reads : (n : ℕ) (ts : List PlainToken) →
+    body_reading n ts ≡ cond (begins_of (mark_class marks.OpenBrace ∷ []) ts) (onwards (reading parts.block n ts) (λ x us. Ok (stmts.Block x, us))) (nested_reading n ts)
+unfolding body_reading nested_reading reading
+body_reads n ts =
     renamed_steps to_body (values language meaning n body ts) ∙ in_rows body n ts (λ x us. Ok (to_body x, us))
-    ∙ two (begins_of (mark_class marks.OpenBrace ∷ []) ts) refl (deeper (Symbol parts.plain) n ts (λ x us. Ok (x, us)) some ∙ onwards_ok (reading parts.plain (n - 1) ts))
+    ∙ two (begins_of (mark_class marks.OpenBrace ∷ []) ts) refl (onwards_ok (values language meaning n (Counted (Symbol parts.plain)) ts))
 
-pub body_refused : (ts : List PlainToken) →
-    body_reading 0 ts ≡ cond (begins_of (mark_class marks.OpenBrace ∷ []) ts) (onwards (reading parts.block 0 ts) (λ x us. Ok (stmts.Block x, us))) (refused (classes_of classes.Plain) ts)
-unfolding body_reading reading
-body_refused ts =
-    renamed_steps to_body (values language meaning 0 body ts) ∙ in_rows body 0 ts (λ x us. Ok (to_body x, us))
-    ∙ two (begins_of (mark_class marks.OpenBrace ∷ []) ts) refl (too_deep (Symbol parts.plain) ts (λ x us. Ok (x, us)))
+pub nested_reads : (n : ℕ) (ts : List PlainToken) → 0 < n → nested_reading n ts ≡ reading parts.plain (n - 1) ts
+unfolding nested_reading reading
+nested_reads n ts some =
+    sym (onwards_ok (values language meaning n (Counted (Symbol parts.plain)) ts)) ∙ deeper (Symbol parts.plain) n ts (λ x us. Ok (x, us)) some ∙ onwards_ok (reading parts.plain (n - 1) ts)
+
+pub nested_refused : (ts : List PlainToken) → nested_reading 0 ts ≡ refused (classes_of classes.Plain) ts
+unfolding nested_reading
+nested_refused ts = sym (onwards_ok (values language meaning 0 (Counted (Symbol parts.plain)) ts)) ∙ too_deep (Symbol parts.plain) ts (λ x us. Ok (x, us))
 
 pub otherwise_reads : (n : ℕ) (ts : List PlainToken) →
     otherwise_reading n ts ≡ cond (begins_of (word_class words.Else ∷ []) ts)
@@ -371,7 +374,7 @@ declarator_reads n ts =
 pub next_declarator_reads : (n : ℕ) (ts : List PlainToken) → next_declarator_reading n ts ≡ onwards (token_of (mark_class marks.Comma ∷ []) ts) (λ t us. reading parts.declarator n us)
 unfolding next_declarator_reading reading
 next_declarator_reads n ts =
-    renamed_steps (λ x. x.1) (values language meaning n next_declarator_row ts) ∙ sights (both token raw) n ts (λ x us. Ok (x.1, us))
+    renamed_steps (λ x. x.1) (values language meaning n next_declarator_row ts) ∙ sights {r = next_declarator_row} (both token raw) n ts (λ x us. Ok (x.1, us))
     ∙ onwards_same (token_of (mark_class marks.Comma ∷ []) ts) (λ t us. onwards (reading parts.declarator n us) (λ x vs. Ok (x, vs))) (λ t us. reading parts.declarator n us)
     (λ t us. onwards_ok (reading parts.declarator n us))
 
@@ -482,5 +485,5 @@ untyped_reads n ts =
 
 pub items_reads : (n : ℕ) (ts : List PlainToken) →
     items_reading n ts ≡ cond (begins_of (classes_of classes.Item) ts) (onwards (reading parts.item n ts) (λ x us. onwards (items_reading n us) (λ xs vs. Ok (x ∷ xs, vs)))) (Ok ([], ts))
-unfolding items_reading reading
+unfolding items_reading reading begins_of
 items_reads n ts = list_unrolls bounds grammar_fits meaning (Symbol parts.item) refl n ts

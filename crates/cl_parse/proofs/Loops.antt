@@ -32,8 +32,8 @@ use Rattle.cl_parse.proofs.Equations.{inners_reads, declarators_reads, more_para
 -- ---- a row that isn't empty takes a token
 
 some_token : (test : PlainToken → Bool) (c : Bool) (ts : List PlainToken) → c ≡ false → begins test c ts ≡ true → 0 < length ts
-some_token test c [] no yes = absurd cc
-some_token test c (t ∷ ts) no yes = omega arith
+some_token test c [] low high = absurd cc
+some_token test c (t ∷ ts) low high = omega arith
 
 values_shorter : (r : Row) → fits bounds r ≡ true → may_be_empty r ≡ false → (n : ℕ) (ts : List PlainToken) (x : Parts tree_of r) (us : List PlainToken) →
     values language meaning n r ts ≡ Ok (x, us) → length us < length ts

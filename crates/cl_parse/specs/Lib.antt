@@ -1,3 +1,4 @@
 pub mod Classes
 pub mod Readings
 pub mod Rows
+pub mod Unit

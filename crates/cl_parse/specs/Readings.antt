@@ -2,7 +2,7 @@
 use Rattle.std.specs.Prelude.{ℕ, ◌⊎◌, List, [], ◌∷◌, Option, Some, Ok, Bool, true, false}
 use Rattle.std.proofs.Common.{inl, inr}
 use Rattle.cl_rules.specs.Rules.{renamed}
-use Rattle.cl_rules.specs.Syntax.{Many, Symbol, maybe}
+use Rattle.cl_rules.specs.Syntax.{Many, Counted, Symbol, maybe}
 use Rattle.cl_rules.specs.Values.{Parts, values, before_rest}
 use Rattle.cl_rules.specs.Unroll.{Step, onwards}
 use Rattle.cl_ast.specs.declared.word.Word.TheVariants as words
@@ -67,6 +67,10 @@ condition_reading n ts = made_of condition (λ x. x.1.0) n ts
 -- a statement behind a head
 unfoldable pub body_reading : ℕ → List PlainToken → Step PlainToken Stmt
 body_reading n ts = made_of body to_body n ts
+
+-- one that isn't a block, which counts for nesting
+unfoldable pub nested_reading : ℕ → List PlainToken → Step PlainToken Stmt
+nested_reading n ts = values language meaning n (Counted (Symbol parts.plain)) ts
 
 -- a statement behind `else`, where there is one
 unfoldable pub otherwise_reading : ℕ → List PlainToken → Step PlainToken (Option Stmt)

@@ -2,5 +2,15 @@
 #![tactic(auto)]
 
 mod class;
+mod declare;
+mod head;
+mod item;
+mod params;
 mod simple;
+mod statement;
+#[cfg(test)]
+mod tests;
 mod tokens;
+mod unit;
+
+pub use unit::{Unit, parse};
