@@ -33,6 +33,9 @@ tree_there n ts xs e =
     let derived : Derives n ts xs = record { derivation = read.0; member = all.0; spelled = all.2; nesting = all.1; tree = read.2 } in
     record { derived = derived; only = λ m ys d. derived_once n m ts xs ys derived d }
 
+abbrev ok_of : Derivation rules unit → Result (Derivation rules unit) (Kind × List PlainToken)
+ok_of d = Ok d
+
 -- no whole reading, and where it stops
 stopped : (n : ℕ) (ts : List PlainToken) (kind : Kind) (bad : List PlainToken) → whole (reads language n unit) ts ≡ Err (kind, bad) → IsStopped n ts kind bad
 stopped n ts kind bad e =
@@ -43,9 +46,6 @@ stopped n ts kind bad e =
       stops = all.stops ts kind bad e;
     }
   where
-    abbrev ok_of : Derivation rules unit → Result (Derivation rules unit) (Kind × List PlainToken)
-    ok_of d = Ok d
-
     never : (d : Derivation rules unit) → ok_of d ≡ Err (kind, bad) → ⊥
     never d f = cc
 
