@@ -28,10 +28,10 @@ use Rattle.cl_parse_expr.proofs.Equations.{links_reads, arguments_reads, fields_
 -- ---- one turn, and the last
 
 -- how such a list reads
-abbrev Unrolls : {A : Type 0} → (List PlainToken → Bool) → (List PlainToken → Step PlainToken A) → (List PlainToken → Step PlainToken (List A)) → Type 0
+abbrev pub Unrolls : {A : Type 0} → (List PlainToken → Bool) → (List PlainToken → Step PlainToken A) → (List PlainToken → Step PlainToken (List A)) → Type 0
 Unrolls test p q = (ts : List PlainToken) → q ts ≡ cond (test ts) (onwards (p ts) (λ x us. onwards (q us) (λ xs vs. Ok (x ∷ xs, vs)))) (Ok ([], ts))
 
-turn : {A : Type 0} (test : List PlainToken → Bool) (p : List PlainToken → Step PlainToken A) (q : List PlainToken → Step PlainToken (List A)) → Unrolls test p q →
+pub turn : {A : Type 0} (test : List PlainToken → Bool) (p : List PlainToken → Step PlainToken A) (q : List PlainToken → Step PlainToken (List A)) → Unrolls test p q →
     (found : List A) (x : A) (ts us : List PlainToken) → test ts ≡ true → p ts ≡ Ok (x, us) →
     onwards (q ts) (λ xs vs. Ok (found ++ xs, vs)) ≡ onwards (q us) (λ xs vs. Ok ((found ++ x ∷ []) ++ xs, vs))
 turn {A} test p q unrolls found x ts us h e =
@@ -45,7 +45,7 @@ turn {A} test p q unrolls found x ts us h e =
     by (Err bad) = refl
     by (Ok y) = ap (λ (zs : List A). Ok (zs, y.1)) (sym (append_assoc found (x ∷ []) y.0))
 
-last : {A : Type 0} (test : List PlainToken → Bool) (p : List PlainToken → Step PlainToken A) (q : List PlainToken → Step PlainToken (List A)) → Unrolls test p q →
+pub last : {A : Type 0} (test : List PlainToken → Bool) (p : List PlainToken → Step PlainToken A) (q : List PlainToken → Step PlainToken (List A)) → Unrolls test p q →
     (found : List A) (ts : List PlainToken) → test ts ≡ false → onwards (q ts) (λ xs vs. Ok (found ++ xs, vs)) ≡ Ok (found, ts)
 last {A} test p q unrolls found ts h =
     ap (λ r. onwards r (λ xs vs. Ok (found ++ xs, vs)))
@@ -109,7 +109,7 @@ token_rest cs (u ∷ ts) t us e = by (accept class_of cs u) e
     by None d = absurd cc
     by (Some z) d = let same : ts ≡ us = rest_of z t ts us d in let long = ap length same in omega arith
 
-reading_rest : (p : Part) (n : ℕ) (ts : List PlainToken) (x : tree_of p) (us : List PlainToken) → reading p n ts ≡ Ok (x, us) → length us ≤ length ts
+pub reading_rest : (p : Part) (n : ℕ) (ts : List PlainToken) (x : tree_of p) (us : List PlainToken) → reading p n ts ≡ Ok (x, us) → length us ≤ length ts
 unfolding reading
 reading_rest p n ts x us e = values_rest bounds grammar_fits meaning n (Symbol p) refl ts x us e
 
@@ -132,7 +132,7 @@ two_rest cs p one shorter ts y vs e =
     let long = ap length (rest_of (one first.0 second.0) y second.1 vs second.3) in
     omega arith
 
-plain_shorter : (ts us : List Token) → length (plain_tokens us) < length (plain_tokens ts) → length us < length ts
+pub plain_shorter : (ts us : List Token) → length (plain_tokens us) < length (plain_tokens ts) → length us < length ts
 plain_shorter ts us h = let a = plain_length ts in let b = plain_length us in omega arith
 
 pub link_shorter : (l : Level) (n : ℕ) (ts : List Token) (x : Link) (us : List Token) → link_reading l n (plain_tokens ts) ≡ Ok (x, plain_tokens us) → length us < length ts

@@ -58,7 +58,7 @@ suffix ts at front rest e =
         ap (λ k. drop k ts) left ∙ ap (drop (length xs)) d ∙ drop-append_seam xs rest
 
 -- the place of what is left
-placed : (ts : List Token) (at : ℕ) (front : List PlainToken) (rest : List Token) → drop at (plain_tokens ts) ≡ front ++ plain_tokens rest →
+pub placed : (ts : List Token) (at : ℕ) (front : List PlainToken) (rest : List Token) → drop at (plain_tokens ts) ≡ front ++ plain_tokens rest →
     drop (length ts - length rest) (plain_tokens ts) ≡ plain_tokens rest
 placed ts at front rest e =
     ap (λ k. drop k (plain_tokens ts)) (sym (ap (λ k. k - length (plain_tokens rest)) (plain_length ts) ∙ ap (λ k. length ts - k) (plain_length rest)))

@@ -1,0 +1,5 @@
+pub mod Equations
+pub mod Loops
+pub mod Sights
+pub mod Verdicts
+pub mod Words

@@ -1,0 +1,12 @@
+use Rattle.std.proofs.Common.{◌≡◌, ◌++◌, Ok, length}
+use Rattle.cl_rules.specs.Unroll.{onwards}
+use Rattle.cl_parse_expr.specs.Steps.{plain_tokens}
+use Rattle.cl_parse.specs.Readings.{items_reading}
+use Rattle.cl_parse.proofs.item.items.Given as goal
+
+abbrev pub invariant-loop-alloc : goal.invariant-loop-alloc
+invariant-loop-alloc l =
+    items_reading l.fn.nesting (plain_tokens l.fn.tokens) ≡ onwards (items_reading l.fn.nesting (plain_tokens l.rest)) (λ xs us. Ok (l.found ++ xs, us))
+
+abbrev pub decreases-loop-alloc : goal.decreases-loop-alloc
+decreases-loop-alloc l = length l.rest

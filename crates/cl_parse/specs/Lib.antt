@@ -1,0 +1,4 @@
+pub mod Classes
+pub mod Readings
+pub mod Rows
+pub mod Unit
