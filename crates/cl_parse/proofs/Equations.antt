@@ -1,10 +1,9 @@
 -- What the functions that read statements, declarations and items go by.
 use Rattle.std.specs.Prelude.{◌⊎◌}
-use Rattle.std.proofs.Common.{◌≡◌, ◌-◌, ◌<◌, ℕ, Bool, true, false, cond, List, [], ◌∷◌, Some, None, Ok, Err, refl, sym, ap, ◌∙◌, inl, inr}
-use Rattle.cl_rules.specs.Rules.{renamed}
-use Rattle.cl_rules.specs.Syntax.{Rule, Token, Many, Counted, Symbol, ◌⨾◌, ◌∣◌, maybe}
+use Rattle.std.proofs.Common.{◌≡◌, ◌-◌, ◌<◌, ℕ, Bool, true, false, cond, List, [], ◌∷◌, Some, None, Ok, refl, sym, ◌∙◌, inl, inr}
+use Rattle.cl_rules.specs.Syntax.{Many, Counted, Symbol, ◌⨾◌, ◌∣◌, maybe}
 use Rattle.cl_rules.specs.Values.{values, before_rest}
-use Rattle.cl_rules.specs.Unroll.{Step, onwards}
+use Rattle.cl_rules.specs.Unroll.{onwards}
 use Rattle.cl_rules.proofs.Unroll.{onwards_same, onwards_ok, list_unrolls}
 use Rattle.cl_ast.specs.declared.mark.Mark.TheVariants as marks
 use Rattle.cl_ast.specs.declared.word.Word.{Word}
@@ -23,17 +22,17 @@ use Rattle.cl_ast.specs.declared.statement.Form.TheVariants as forms
 use Rattle.cl_ast.specs.declared.statement.Item.TheVariants as items
 use Rattle.cl_ast.specs.Plain.{PlainKind, PlainToken}
 use Rattle.cl_ast.specs.Plain as kinds
-use Rattle.cl_ast.specs.Classes.{mark_class, word_class, mark_classes, word_classes}
+use Rattle.cl_ast.specs.Classes.{mark_class, word_class}
 use Rattle.cl_ast.specs.Grammar.{Row, mark, word, text, body, condition, size, list_of}
 use Rattle.cl_ast.specs.Grammar as parts
-use Rattle.cl_ast.specs.Tables.{language, bounds, firsts, expr_firsts, simple_firsts, plain_firsts, type_firsts}
+use Rattle.cl_ast.specs.Tables.{language, bounds}
 use Rattle.cl_ast.specs.Trees.{Index, meaning, to_started, to_typed, to_item, span_of, token_span, kind_change, kind_size, kind_type, is_decrement, behind_marks, to_name, to_literal, to_text, to_maybe, to_call, to_operation, to_step, to_change, to_assign, to_simple, to_body, to_else, to_leave, to_inner, to_given, to_declarator, to_variables, to_parameter, to_params, to_function, to_result, is_there, index_value, place_span}
 use Rattle.cl_ast.proofs.Fits.{grammar_fits}
 use Rattle.cl_parse_expr.specs.Steps.{begins_of, token_of, reading}
 use Rattle.cl_parse_expr.specs.Readings.{refused, arguments_reading}
 use Rattle.cl_parse.specs.Classes.{classes_of}
 use Rattle.cl_parse.specs.declared.class.Class.TheVariants as classes
-use Rattle.cl_parse.specs.Rows.{change_row, changed_row, behind_name_row, started_row, stepped_row, operation_row, formatted_row, print_row, otherwise_row, line_row, if_row, while_row, do_row, head_row, for_row, leave_row, return_row, inner_row, sized_row, valued_row, next_declarator_row, parameter_row, next_parameter_row, parameters_row, define_row, function_row, shared_row, behind_typed_row, typed_row, untyped_row}
+use Rattle.cl_parse.specs.Rows.{change_row, changed_row, formatted_row, otherwise_row, line_row, head_row, inner_row, next_declarator_row, parameter_row, next_parameter_row, parameters_row, function_row, shared_row}
 use Rattle.cl_parse.specs.Readings.{is_continue, change_reading, changed_reading, behind_name_reading, started_reading, stepped_reading, operation_reading, print_reading, formatted_reading, condition_reading, nested_reading, body_reading, otherwise_reading, maybe_simple_reading, maybe_expr_reading, empty_reading, line_reading, if_reading, while_reading, do_reading, head_reading, for_reading, leave_reading, return_reading, to_inner_one, inner_reading, inners_reading, sized_reading, valued_reading, declared_reading, next_declarator_reading, declarators_reading, parameter_reading, next_parameter_reading, next_parameters, more_parameters_reading, parameters_reading, sign_reading, define_reading, behind_typed_reading, typed_reading, result_reading, untyped_reading, items_reading}
 use Rattle.cl_parse.proofs.Sights.{Sight, raw, token, both, seen, sights, choice, in_rows, part_reads, part_rows, renamed_steps, deeper, too_deep, list_reads}
 

@@ -1,10 +1,10 @@
 -- Loops that read lists.
-use Rattle.std.proofs.Common.{◌≡◌, ◌+◌, ◌<◌, ℕ, Bool, true, false, List, [], ◌∷◌, ◌++◌, length, Ok, refl, sym, ap, ◌∙◌, length-append, arith}
+use Rattle.std.proofs.Common.{◌≡◌, ◌+◌, ◌<◌, ℕ, Bool, true, false, List, [], ◌∷◌, ◌++◌, length, Ok, refl, ap, ◌∙◌, length-append, arith}
 use Rattle.cl_rules.specs.Rules.{begins, renamed}
-use Rattle.cl_rules.specs.Syntax.{Symbol, Many, tokens, may_be_empty, opens, reads}
+use Rattle.cl_rules.specs.Syntax.{Symbol, tokens, may_be_empty, opens, reads}
 use Rattle.cl_rules.specs.Fit.{fits}
 use Rattle.cl_rules.specs.Values.{Parts, value, values}
-use Rattle.cl_rules.specs.Unroll.{Step, onwards}
+use Rattle.cl_rules.specs.Unroll.{onwards}
 use Rattle.cl_rules.proofs.Laws.{renamed_ok}
 use Rattle.cl_rules.proofs.Bounds.{grammar_laws}
 use Rattle.cl_rules.proofs.Reading.{reads_is}

@@ -1,7 +1,7 @@
 -- Rows read part by part: the parts that a function reads itself, and those that it leaves to others.
 use Rattle.std.proofs.Common.{◌≡◌, ◌-◌, ◌<◌, ℕ, zero, suc, Bool, true, false, cond, List, [], ◌∷◌, Ok, Err, refl, sym, ap, ◌∙◌, inl, inr, arith}
 use Rattle.cl_rules.specs.Rules.{Syntax, TooDeep, renamed}
-use Rattle.cl_rules.specs.Syntax.{Rule, Token, Nothing, Both, Either, Many, Counted, Symbol, starts}
+use Rattle.cl_rules.specs.Syntax.{Token, Nothing, Both, Either, Many, Counted, Symbol, starts}
 use Rattle.cl_rules.specs.Fit.{fits}
 use Rattle.cl_rules.specs.Values.{Parts, values, before_rest, built}
 use Rattle.cl_rules.specs.Unroll.{Step, onwards}

@@ -1,7 +1,7 @@
 -- What the reading of items says of all of the tokens.
-use Rattle.std.proofs.Common.{◌≡◌, ◌-◌, ◌<◌, ◌≤◌, arith, ℕ, true, List, [], ◌∷◌, ◌++◌, length, drop, Result, Ok, Err, refl, sym, ap, subst, ◌∙◌}
-use Rattle.cl_rules.specs.Rules.{Kind, Syntax, TooDeep, Stops, to_the_end, whole}
-use Rattle.cl_rules.specs.Syntax.{Derivation, tokens, reads}
+use Rattle.std.proofs.Common.{◌≡◌, ◌-◌, ◌<◌, arith, ℕ, List, [], ◌∷◌, length, drop, Result, Ok, Err, sym, ap, subst, ◌∙◌}
+use Rattle.cl_rules.specs.Rules.{Kind, Syntax, to_the_end, whole}
+use Rattle.cl_rules.specs.Syntax.{Derivation, reads}
 use Rattle.cl_rules.specs.Values.{value, values}
 use Rattle.cl_rules.proofs.Laws.{renamed_ok, renamed_err, whole_is}
 use Rattle.cl_rules.proofs.Reading.{reads_is}

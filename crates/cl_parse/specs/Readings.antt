@@ -1,9 +1,8 @@
 -- What the functions that read statements, declarations and items give, in the terms of the grammar. (This project.)
-use Rattle.std.specs.Prelude.{ℕ, ◌⊎◌, List, [], ◌∷◌, Option, Some, Ok, Bool, true, false}
+use Rattle.std.specs.Prelude.{ℕ, ◌⊎◌, List, Option, Ok, Bool, true, false}
 use Rattle.std.proofs.Common.{inl, inr}
-use Rattle.cl_rules.specs.Rules.{renamed}
 use Rattle.cl_rules.specs.Syntax.{Many, Counted, Symbol, maybe}
-use Rattle.cl_rules.specs.Values.{Parts, values, before_rest}
+use Rattle.cl_rules.specs.Values.{values, before_rest}
 use Rattle.cl_rules.specs.Unroll.{Step, onwards}
 use Rattle.cl_ast.specs.declared.word.Word.TheVariants as words
 use Rattle.cl_ast.specs.declared.mark.Mark.TheVariants as marks
@@ -23,8 +22,8 @@ use Rattle.cl_ast.specs.Plain as kinds
 use Rattle.cl_ast.specs.Grammar.{mark, word, body, condition}
 use Rattle.cl_ast.specs.Grammar as parts
 use Rattle.cl_ast.specs.Tables.{language}
-use Rattle.cl_ast.specs.Trees.{Given, meaning, tree_of, behind_marks, to_maybe, to_text, to_change, to_started, to_assign, to_simple, to_body, to_else, to_plain, to_inner, to_given, to_declarator, to_parameter, to_parameters, to_params, to_result, to_typed, to_item, is_there}
-use Rattle.cl_parse.specs.Rows.{built_of, made_of, change_row, changed_row, behind_name_row, started_row, stepped_row, operation_row, formatted_row, print_row, otherwise_row, line_row, if_row, while_row, do_row, head_row, for_row, leave_row, return_row, inner_row, sized_row, valued_row, next_declarator_row, parameter_row, next_parameter_row, parameters_row, define_row, behind_typed_row, typed_row, untyped_row}
+use Rattle.cl_ast.specs.Trees.{Given, meaning, behind_marks, to_maybe, to_text, to_change, to_started, to_assign, to_simple, to_body, to_else, to_plain, to_inner, to_given, to_declarator, to_parameter, to_parameters, to_params, to_result, to_typed, to_item, is_there}
+use Rattle.cl_parse.specs.Rows.{built_of, made_of, change_row, behind_name_row, started_row, stepped_row, operation_row, formatted_row, print_row, otherwise_row, line_row, if_row, while_row, do_row, head_row, for_row, leave_row, return_row, inner_row, sized_row, valued_row, next_declarator_row, parameter_row, next_parameter_row, parameters_row, define_row, behind_typed_row, typed_row, untyped_row}
 
 -- ---- changes, calls, operations and prints
 

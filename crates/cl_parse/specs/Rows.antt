@@ -1,7 +1,7 @@
 -- The rows of the grammar that functions read by themselves, and what is read of a row. (This project.)
 use Rattle.std.specs.Prelude.{ℕ, List, [], ◌∷◌, Ok}
 use Rattle.cl_rules.specs.Rules.{renamed}
-use Rattle.cl_rules.specs.Syntax.{Rule, Many, Symbol, ◌⨾◌, ◌∣◌, maybe}
+use Rattle.cl_rules.specs.Syntax.{Many, Symbol, ◌⨾◌, ◌∣◌, maybe}
 use Rattle.cl_rules.specs.Values.{Parts, values, before_rest}
 use Rattle.cl_rules.specs.Unroll.{Step, onwards}
 use Rattle.cl_ast.specs.declared.word.Word.TheVariants as words

@@ -9,9 +9,7 @@ use crate::declare::variables;
 use crate::head::{condition, head, maybe_expr};
 use crate::simple::simple;
 use crate::tokens::{begins, take};
-use cl_ast::{
-    Block, Do, For, If, Mark, Return, Stmt, Token, TokenKind, While, Word,
-};
+use cl_ast::{Block, Do, For, If, Mark, Return, Stmt, Token, TokenKind, While, Word};
 use cl_parse_expr::{Failure, span};
 use sqlite_items::{Boxed, Items};
 use std::alloc::Global;

@@ -97,7 +97,12 @@ fn check_trees(rt: &impl Abort, alloc: Global) -> Result<(), Fail> {
     assert!(rt; read(alloc, b"")? == Ok(0));
     assert!(rt; read(alloc, b"#n-1#n1ta[1],c=1;n(){}vn(v){}tn(ta,tc){}")? == Ok(6));
     assert!(rt; read(alloc, b"n(){ta;{;}x=1;x+;+x;g(x,1);o(s,?x,1);p(s,x);}")? == Ok(1));
-    assert!(rt; read(alloc, b"n(){i(x)i(y);e;w(x)b;dx+;w(x);f(;;);f(x=1;x;x+)r;r1;}")? == Ok(1));
+    assert!(rt;
+        read(
+            alloc,
+            b"n(){i(x)i(y);e;w(x)b;dx+;w(x);f(;;);f(x=1;x;x+)r;r1;}"
+        )? == Ok(1)
+    );
     Ok(())
 }
 
