@@ -6,7 +6,13 @@ import sys
 import tempfile
 import time
 
-COUNTS = {"counter": (1_000_000, 10_000_000), "queue": (100_000, 1_000_000), "list": (3_000, 30_000)}
+COUNTS = {
+    "counter": (1_000_000, 10_000_000),
+    "queue": (100_000, 1_000_000),
+    "keys-1000": (100_000, 1_000_000),
+    "keys-100000": (100_000, 1_000_000),
+    "list": (3_000, 30_000),
+}
 
 
 def seconds(program, line):

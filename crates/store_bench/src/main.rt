@@ -3,13 +3,18 @@
 //! A line has the name of a store and a number. The answer is how many takes had a tuple.
 #![tactic(auto)]
 
-ghost use Rattle.std.specs.Prelude.{◌≡◌, ◌<◌, ◌≤◌, List, [], ◌∷◌, All, IsTrue, IfOk, pos};
+ghost use Rattle.std.specs.Prelude.{◌≡◌, ◌<◌, ◌≤◌, List, [], ◌∷◌, All, Some, IsTrue, IfOk, pos};
 ghost use Rattle.cl_value.specs.Room.{Room};
+ghost use Rattle.cl_value.specs.declared.template.Slot.{Slot as Asked};
 ghost use Rattle.cl_value.specs.declared.value.Value.{Value as Field};
 ghost use Rattle.cl_value.specs.declared.value.Value.TheVariants as values;
 ghost use Rattle.cl_value.specs.declared.template.Slot.TheVariants as slots;
+ghost use Rattle.cl_keyed.specs.Keys.{key_at, has_actual};
+ghost use Rattle.cl_keyed.specs.declared.key.Key.{Key};
+ghost use Rattle.cl_keyed.specs.declared.key.Key.TheVariants as kinds;
 
 use cl_counter::Counter;
+use cl_keyed::Keyed;
 use cl_list::Listed;
 use cl_queue::Queue;
 use cl_store::TupleStore;
@@ -48,6 +53,58 @@ fn fill_and_empty<S: TupleStore, L: Ledger>(
     Ok(hits)
 }
 
+// ("q", number)
+fn tuple_at(alloc: Global, number: i32) -> Result<Tuple, NoMemory>
+    ensures { IfOk result (λ t. key_at 1 t.items ≡ Some (kinds.Int number)) }
+{
+    let mut tuple = Tuple::with_room(alloc)?;
+    tuple.restart(Value::Text(0));
+    tuple.push(Value::Int(number));
+    Ok(tuple)
+}
+
+// The template of that tuple.
+fn asking_at(alloc: Global, number: i32) -> Result<Template, NoMemory>
+    ensures { IfOk result (λ m. IsTrue (has_actual 1 m.items)) }
+{
+    let mut slots = Items::new(alloc);
+    slots.reserve(2)?;
+    slots.push(Slot::Actual(Value::Text(0)));
+    slots.push(Slot::Actual(Value::Int(number)));
+    Ok(Template::new(slots))
+}
+
+// Adds `count` tuples of as many keys as `keys` says, in turn, and takes them in the same order. How often
+// there was one.
+fn fill_and_empty_by_key<S: TupleStore, L: Ledger>(
+    alloc: Global,
+    store: &mut S,
+    keys: u32,
+    count: u32,
+    steps: &mut Steps<L>,
+) -> Result<u32, NoMemory>
+    requires admits { (t : List Field) (k : Key) → key_at 1 t ≡ Some k → IsTrue (S.admits store.old t) }
+    requires fits { (ts : List (List Field)) (m : List Asked) → IsTrue (has_actual 1 m) → IsTrue (S.fits store.old ts m) }
+    requires some { 0 < keys }
+    requires few { keys ≤ 100000 }
+    ensures { IfOk result (λ hits. hits ≤ count) }
+{
+    'filling: for round in 0..count {
+        let tuple = tuple_at(alloc, (round % keys) as i32)?;
+        store.reserve(&tuple)?;
+        store.add(&tuple);
+    }
+    let mut into = Tuple::with_room(alloc)?;
+    let mut hits = 0;
+    'emptying: for round in 0..count {
+        let template = asking_at(alloc, (round % keys) as i32)?;
+        if store.take(&template, &mut into, steps) {
+            hits += 1;
+        }
+    }
+    Ok(hits)
+}
+
 // ("q", 1)
 fn numbered(alloc: Global) -> Result<Tuple, NoMemory>
     ensures { IfOk result (λ t. t.items ≡ values.Text 0 ∷ values.Int (pos 1) ∷ []) }
@@ -73,6 +130,8 @@ fn asking(alloc: Global) -> Result<Template, NoMemory>
 enum Store {
     Counter,
     Queue,
+    FewKeys,
+    ManyKeys,
     List,
 }
 
@@ -81,6 +140,8 @@ impl Store {
         match word {
             "counter" => Some(Store::Counter),
             "queue" => Some(Store::Queue),
+            "keys-1000" => Some(Store::FewKeys),
+            "keys-100000" => Some(Store::ManyKeys),
             "list" => Some(Store::List),
             _ => None,
         }
@@ -103,6 +164,14 @@ fn run<L: Ledger>(alloc: Global, store: Store, count: u32, blank: Blank) -> Resu
         Store::Queue => {
             let mut store = Queue::new(alloc);
             fill_and_empty(alloc, &mut store, &tuple, &template, count, &mut steps)
+        }
+        Store::FewKeys => {
+            let mut store = Keyed::new(alloc, 1);
+            fill_and_empty_by_key(alloc, &mut store, 1_000, count, &mut steps)
+        }
+        Store::ManyKeys => {
+            let mut store = Keyed::new(alloc, 1);
+            fill_and_empty_by_key(alloc, &mut store, 100_000, count, &mut steps)
         }
         Store::List => {
             let mut store = Listed::new(alloc);
