@@ -42,10 +42,11 @@ def main():
     times = {name: row(name, program, name) for name in COUNTS}
     if shutil.which("rustc"):
         with tempfile.TemporaryDirectory() as folder:
-            other = f"{folder}/queue"
-            subprocess.run(["rustc", "-O", "-o", other, "bench/queue.rs"], check=True)
-            time_of_other = row("queue of Rust's library", other, "queue")
-            print(f"queue against Rust's: {times['queue'] / time_of_other:.1f}")
+            other = f"{folder}/library"
+            subprocess.run(["rustc", "-O", "-o", other, "bench/library.rs"], check=True)
+            for name in ("queue", "keys-1000", "keys-100000"):
+                time_of_other = row(f"{name} with Rust's library", other, name)
+                print(f"{name} against Rust's: {times[name] / time_of_other:.1f}")
 
 
 if __name__ == "__main__":
