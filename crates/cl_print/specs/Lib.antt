@@ -1,0 +1,5 @@
+pub mod Folds
+pub mod Spelling
+pub mod Expressions
+pub mod Statements
+pub mod Writing
