@@ -1,1 +1,4 @@
+pub mod Opens
+pub mod Lines
+pub mod Words
 mod Rows

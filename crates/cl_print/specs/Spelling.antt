@@ -99,3 +99,7 @@ line kinds = text_of (map spaced kinds)
 -- one token
 unfoldable pub one : PlainKind → List PlainKind
 one kind = kind ∷ []
+
+-- the bytes behind which these tokens were written
+unfoldable pub after : List ℕ → List PlainKind → List ℕ
+after bytes kinds = bytes ++ line kinds
