@@ -6,6 +6,7 @@ use Rattle.cl_ast.specs.declared.mark.Mark.TheVariants as marks
 use Rattle.cl_ast.specs.declared.tree.TypeName.{TypeName}
 use Rattle.cl_ast.specs.declared.tree.TypeName.TheVariants as types
 use Rattle.cl_ast.specs.declared.tree.Expr.{Expr}
+use Rattle.cl_ast.specs.declared.tree.Spanned.{Spanned}
 use Rattle.cl_ast.specs.declared.statement.Stmt.{Stmt}
 use Rattle.cl_ast.specs.declared.statement.Block.{Block}
 use Rattle.cl_ast.specs.declared.statement.Do.{Do}
@@ -31,6 +32,9 @@ use Rattle.cl_print.specs.Expressions.{Row, mark, word, constant_kind, in_bracke
 abbrev pub expr_kinds : Expr → Row
 expr_kinds x = (expr_said x).kinds
 
+abbrev pub spanned_kinds : Spanned → Row
+spanned_kinds x = expr_kinds x.expr
+
 -- ---- declarations
 
 abbrev pub type_word : TypeName → Word
@@ -45,7 +49,7 @@ size_kind (sizes.Name n) = Name n.bytes
 abbrev pub form_kinds : Form → Row
 form_kinds forms.Bare = []
 form_kinds (forms.Array size) = mark marks.OpenSquare ++ (one (size_kind size) ++ mark marks.CloseSquare)
-form_kinds (forms.Value x) = mark marks.Assign ++ expr_kinds x
+form_kinds (forms.Value x) = mark marks.Assign ++ spanned_kinds x
 
 unfoldable pub declarator_kinds : Declarator → Row
 declarator_kinds d = one (Name d.name.bytes) ++ form_kinds d.form
@@ -68,7 +72,7 @@ unfoldable pub assign_kinds : Assign → Row
 assign_kinds a = place_kinds a.place ++ change_kinds a.change
 
 unfoldable pub print_kinds : Print → Row
-print_kinds p = word words.Printf ++ in_brackets (one (Str p.format.bytes) ++ behind_commas (map expr_kinds p.arguments))
+print_kinds p = word words.Printf ++ in_brackets (one (Str p.format.bytes) ++ behind_commas (map spanned_kinds p.arguments))
 
 -- ---- statements
 
