@@ -1,4 +1,5 @@
 pub mod Opens
 pub mod Lines
 pub mod Words
+pub mod Equations
 mod Rows

@@ -1,6 +1,6 @@
 -- How rows of tokens are written one behind the other.
-use Rattle.std.proofs.Common.{◌≡◌, ℕ, ℤ, List, [], ◌∷◌, ◌++◌, map, refl, sym, ap, ◌∙◌, append_assoc}
-use Rattle.std.proofs.lemmas.List.{append-nil}
+use Rattle.std.proofs.Common.{◌≡◌, ℕ, ◌+◌, ◌<◌, ℤ, List, [], ◌∷◌, ◌++◌, map, length, get_or, drop, refl, sym, ap, ◌∙◌, append_assoc}
+use Rattle.std.proofs.lemmas.List.{append-nil, drop_more}
 use Rattle.std.specs.Fmt.{signed_decimal}
 use Rattle.cl_ast.specs.declared.word.Word.{Word}
 use Rattle.cl_ast.specs.declared.mark.Mark.{Mark}
@@ -82,3 +82,22 @@ unfolding spelling
 character_spelled bytes byte =
     let inner = character_spelling (in_character byte) in
     sym (append_assoc (bytes ++ 39 ∷ []) inner (39 ∷ []) ∙ append_assoc bytes (39 ∷ []) (inner ++ 39 ∷ []))
+
+-- ---- loops
+
+-- behind one part more
+pub written_more : (bytes mid new total : List ℕ) (first second rest : List PlainKind) → after bytes (first ++ (second ++ rest)) ≡ total → mid ≡ after bytes first → new ≡ after mid second → after new rest ≡ total
+written_more bytes mid new total first second rest whole one two =
+    ap (λ b. after b rest) (two ∙ ap (λ b. after b second) one) ∙ sym (after_both (after bytes first) second rest) ∙ sym (after_both bytes first (second ++ rest)) ∙ whole
+
+-- behind all parts
+pub written_all : (bytes total : List ℕ) (rest : List PlainKind) → rest ≡ [] → after bytes rest ≡ total → bytes ≡ total
+written_all bytes total rest none whole = sym (after_none bytes) ∙ ap (after bytes) (sym none) ∙ whole
+
+-- one part further in a list
+pub further : {A B : Type 0} (f : List A → B) (xs : List A) (i : ℕ) (x : A) → x ≡ get_or xs i x → i < length xs → f (drop i xs) ≡ f (x ∷ drop (i + 1) xs)
+further f xs i x is within = ap f (drop_more xs i x within ∙ ap (λ y. y ∷ drop (i + 1) xs) (sym is))
+
+-- the same where the part was written at once
+pub written_pair : (bytes new total : List ℕ) (first second rest : List PlainKind) → after bytes (first ++ (second ++ rest)) ≡ total → new ≡ after bytes (first ++ second) → after new rest ≡ total
+written_pair bytes new total first second rest whole one = written_more bytes (after bytes first) new total first second rest whole refl (one ∙ after_both bytes first second)

@@ -1,6 +1,6 @@
 -- The tokens of an expression. Brackets stand round an operand exactly where the grammar needs them: where it binds no closer than what it
 -- is an operand of. (ISO/IEC 9899:1999, 6.5.1 to 6.5.14.)
-use Rattle.std.specs.Prelude.{ℕ, nat_lt, List, [], ◌∷◌, ◌++◌, Option, Some, None, if◌then◌else◌}
+use Rattle.std.specs.Prelude.{ℕ, nat_lt, Bool, true, false, List, [], ◌∷◌, ◌++◌, Option, Some, None, if◌then◌else◌}
 use Rattle.cl_ast.specs.declared.word.Word.{Word}
 use Rattle.cl_ast.specs.declared.word.Word.TheVariants as words
 use Rattle.cl_ast.specs.declared.mark.Mark.{Mark}
@@ -108,15 +108,23 @@ chain_rank (l ∷ ls) = operator_rank l.operator
 
 -- ---- lists
 
--- each behind a comma
-abbrev pub behind_commas : List (List PlainKind) → List PlainKind
-behind_commas [] = []
-behind_commas (x ∷ xs) = mark marks.Comma ++ (x ++ behind_commas xs)
+-- what stands before a part of a list: a comma, but nothing before the first
+abbrev pub comma : Bool → List PlainKind
+comma true = []
+comma false = mark marks.Comma
+
+-- the parts of a list that are left, with their commas
+abbrev pub listed_on : Bool → List (List PlainKind) → List PlainKind
+listed_on is_first [] = []
+listed_on is_first (x ∷ xs) = comma is_first ++ (x ++ listed_on false xs)
 
 -- with commas between them
 abbrev pub listed : List (List PlainKind) → List PlainKind
-listed [] = []
-listed (x ∷ xs) = x ++ behind_commas xs
+listed xs = listed_on true xs
+
+-- each behind a comma
+abbrev pub behind_commas : List (List PlainKind) → List PlainKind
+behind_commas xs = listed_on false xs
 
 abbrev pub all_kinds : List Said → List (List PlainKind)
 all_kinds [] = []
