@@ -2,4 +2,5 @@ pub mod Opens
 pub mod Lines
 pub mod Words
 pub mod Equations
+pub mod StatementEquations
 mod Rows

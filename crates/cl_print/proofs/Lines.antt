@@ -101,3 +101,6 @@ further f xs i x is within = ap f (drop_more xs i x within ∙ ap (λ y. y ∷ d
 -- the same where the part was written at once
 pub written_pair : (bytes new total : List ℕ) (first second rest : List PlainKind) → after bytes (first ++ (second ++ rest)) ≡ total → new ≡ after bytes (first ++ second) → after new rest ≡ total
 written_pair bytes new total first second rest whole one = written_more bytes (after bytes first) new total first second rest whole refl (one ∙ after_both bytes first second)
+
+pub written_one : (bytes new total : List ℕ) (first rest : List PlainKind) → after bytes (first ++ rest) ≡ total → new ≡ after bytes first → after new rest ≡ total
+written_one bytes new total first rest whole one = ap (λ b. after b rest) one ∙ sym (after_both bytes first rest) ∙ whole

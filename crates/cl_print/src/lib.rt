@@ -3,4 +3,5 @@
 #![tactic(auto)]
 
 mod expression;
+mod statement;
 mod writer;
