@@ -3,4 +3,5 @@ pub mod Lines
 pub mod Words
 pub mod Equations
 pub mod StatementEquations
+pub mod ItemLines
 mod Rows

@@ -103,3 +103,7 @@ one kind = kind ∷ []
 -- the bytes behind which these tokens were written
 unfoldable pub after : List ℕ → List PlainKind → List ℕ
 after bytes kinds = bytes ++ line kinds
+
+-- the bytes behind which a row of tokens was written
+unfoldable pub after_all : List ℕ → List Written → List ℕ
+after_all bytes ws = bytes ++ text_of ws

@@ -3,5 +3,8 @@
 #![tactic(auto)]
 
 mod expression;
+mod item;
 mod statement;
 mod writer;
+
+pub use item::print;
