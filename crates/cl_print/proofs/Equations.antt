@@ -1,5 +1,5 @@
 -- What is written of each form of an expression, by what is written of its parts.
-use Rattle.std.proofs.Common.{◌≡◌, ℕ, List, [], ◌∷◌, ◌++◌, map, Option, Some, None, option_map, refl, sym, ap, ◌∙◌}
+use Rattle.std.proofs.Common.{◌≡◌, List, [], ◌∷◌, ◌++◌, map, Option, Some, None, option_map, refl, sym, ap, ◌∙◌}
 use Rattle.cl_ast.specs.declared.mark.Mark.TheVariants as marks
 use Rattle.cl_ast.specs.declared.span.Span.{Span}
 use Rattle.cl_ast.specs.declared.tree.Name.{Name as Named}
@@ -7,7 +7,6 @@ use Rattle.cl_ast.specs.declared.tree.Literal.{Literal}
 use Rattle.cl_ast.specs.declared.tree.Text.{Text}
 use Rattle.cl_ast.specs.declared.tree.Expr.{Expr}
 use Rattle.cl_ast.specs.declared.tree.Expr.TheVariants as exprs
-use Rattle.cl_ast.specs.declared.tree.Field.{Field}
 use Rattle.cl_ast.specs.declared.tree.Field.TheVariants as field_forms
 use Rattle.cl_ast.specs.declared.tree.Call.{Call}
 use Rattle.cl_ast.specs.declared.tree.Chain.{Chain}
@@ -21,7 +20,7 @@ use Rattle.cl_ast.specs.declared.tree.Expr.TheOpen.{Expr-F, Field-F}
 use Rattle.cl_ast.specs.Plain.{Name, Str}
 use Rattle.cl_print.specs.Folds.{fold_expr, fold_field}
 use Rattle.cl_print.specs.Spelling.{one}
-use Rattle.cl_print.specs.Expressions.{Said, Joined, Row, mark, word, constant_kind, verb_word, operator_rank, operand, links, chain_rank, in_brackets, listed, all_kinds, indexed, close, prefixed, steps, expr_said, field_kinds, call_kinds, chain_said, formal_kinds, link_joined, operation_kinds, place_kinds, prefix_kinds}
+use Rattle.cl_print.specs.Expressions.{Said, Joined, mark, word, constant_kind, verb_word, operator_rank, operand, links, chain_rank, in_brackets, listed, all_kinds, indexed, close, prefixed, steps, expr_said, field_kinds, call_kinds, chain_said, formal_kinds, link_joined, operation_kinds, place_kinds, prefix_kinds}
 use Rattle.cl_print.proofs.Opens as opens
 
 -- ---- expressions

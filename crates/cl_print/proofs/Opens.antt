@@ -153,7 +153,6 @@ module _ {E F C H M L O P R : Type 0} (k : ExprSteps E F C H M L O P R) where
   prefix_rolls x = fold-roll e'.the_members e'.the_sigs e'.the_carrier (e.family E F C H M L O P R) (e.steps E F C H M L O P R k.expr k.field k.call k.chain k.formal k.link k.operation k.place k.prefix) e'.member-Prefix x
       ∙ ap k.prefix (e.map_is-Prefix (e'.the_carrier).T (e.family E F C H M L O P R) (fold_part k) x)
 
-
 module _ {S B D F I W : Type 0} (k : StmtSteps S B D F I W) where
   -- what is inside, with what it came to
   abbrev pub inside_stmt : Stmt-F Stmt Block Do For If While → Stmt-F S B D F I W

@@ -1,5 +1,5 @@
 -- Rows of the canonical text that compute.
-use Rattle.std.proofs.Common.{◌≡◌, ℕ, pos, Bool, true, List, [], ◌∷◌, ◌++◌, Option, Some, None, codes, refl}
+use Rattle.std.proofs.Common.{◌≡◌, ℕ, pos, true, List, [], ◌∷◌, Some, None, codes, refl}
 use Rattle.std.specs.Fmt.{digits}
 use denote.Hole.Carrier.{fold, hidden, roll}
 use Rattle.cl_ast.specs.declared.span.Span.{Span}
@@ -19,9 +19,7 @@ use Rattle.cl_ast.specs.declared.statement.Stmt.{Stmt}
 use Rattle.cl_ast.specs.declared.statement.Stmt.TheBlock as s'
 use Rattle.cl_ast.specs.declared.statement.Stmt.TheVariants as stmts
 use Rattle.cl_ast.specs.declared.statement.Stmt.TheViews.{roll-Block, roll-If, roll-For}
-use Rattle.cl_ast.specs.declared.statement.Assign.{Assign}
 use Rattle.cl_ast.specs.declared.statement.Change.TheVariants as changes
-use Rattle.cl_ast.specs.declared.statement.Define.{Define}
 use Rattle.cl_ast.specs.declared.statement.Item.{Item}
 use Rattle.cl_ast.specs.declared.statement.Item.TheVariants as items
 use Rattle.cl_print.specs.Folds.{fold_expr, fold_field, fold_operation, fold_place, fold_stmt, fold_block}

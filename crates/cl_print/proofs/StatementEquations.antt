@@ -1,5 +1,5 @@
 -- What is written of each form of a statement, by what is written of its parts.
-use Rattle.std.proofs.Common.{◌≡◌, ℕ, Bool, true, false, List, [], ◌∷◌, ◌++◌, map, Option, Some, None, option_map, refl, sym, ap, ◌∙◌}
+use Rattle.std.proofs.Common.{◌≡◌, ℕ, true, false, List, [], ◌++◌, map, Option, Some, None, option_map, refl, sym, ap, ◌∙◌}
 use Rattle.cl_ast.specs.declared.span.Span.{Span}
 use Rattle.cl_ast.specs.declared.word.Word.TheVariants as words
 use Rattle.cl_ast.specs.declared.mark.Mark.TheVariants as marks
@@ -21,7 +21,7 @@ use Rattle.cl_ast.specs.declared.statement.Return.{Return}
 use Rattle.cl_print.specs.Folds.{fold_stmt}
 use Rattle.cl_print.specs.Spelling.{after}
 use Rattle.cl_print.specs.Expressions.{mark, word, call_kinds, operation_kinds}
-use Rattle.cl_print.specs.Statements.{Line, closed, condition, maybe_expr, maybe_simple, otherwise, in_order, head, variables_kinds, assign_kinds, print_kinds, steps, stmt_line, block_kinds, do_kinds, for_kinds, if_kinds, while_kinds}
+use Rattle.cl_print.specs.Statements.{Line, closed, condition, maybe_expr, otherwise, in_order, head, variables_kinds, assign_kinds, print_kinds, steps, stmt_line, block_kinds, do_kinds, for_kinds, if_kinds, while_kinds}
 use Rattle.cl_print.proofs.Opens as opens
 use Rattle.cl_print.proofs.Lines.{after_both, after_none}
 

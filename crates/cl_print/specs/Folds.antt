@@ -1,5 +1,5 @@
 -- Recursion on trees, in a form that computes: a step is told what the parts gave. (This project.)
-use denote.Hole.Carrier.{fold, hidden}
+use denote.Hole.Carrier.{fold}
 use Rattle.cl_ast.specs.declared.tree.Expr.{Expr}
 use Rattle.cl_ast.specs.declared.tree.Field.{Field}
 use Rattle.cl_ast.specs.declared.tree.Call.{Call}

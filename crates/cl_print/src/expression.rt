@@ -3,7 +3,6 @@
 ghost use Rattle.std.specs.Prelude.{◌≡◌, ◌++◌, [], map, option_map, OnOk};
 ghost use Rattle.cl_print.specs.Spelling.{after};
 ghost use Rattle.cl_print.specs.Expressions.{mark, verb_word, operator_mark, operator_rank, operand, links, chain_rank, comma, listed, all_kinds, indexed, expr_said, field_kinds, call_kinds, chain_said, formal_kinds, link_joined, operation_kinds, place_kinds, prefix_kinds};
-
 ghost use Rattle.cl_ast.specs.declared.mark.Mark.TheVariants as marks;
 
 use crate::writer::Writer;

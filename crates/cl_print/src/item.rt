@@ -62,11 +62,7 @@ impl Writer {
     fn minus(&mut self, is_negative: bool) -> Result<(), NoMemory>
         ensures { OnOk result (self.new ≡ after_all self.old (minus is_negative)) }
     {
-        if is_negative {
-            self.put(b"-")
-        } else {
-            Ok(())
-        }
+        if is_negative { self.put(b"-") } else { Ok(()) }
     }
 
     /// Puts a line that defines a constant at the end.

@@ -5,6 +5,8 @@
 mod expression;
 mod item;
 mod statement;
+#[cfg(test)]
+mod tests;
 mod writer;
 
 pub use item::print;

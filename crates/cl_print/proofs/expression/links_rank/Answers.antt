@@ -1,5 +1,5 @@
-use Rattle.std.proofs.Common.{◌≡◌, [], map, drop, sym, ap, ◌∙◌, arith}
-use Rattle.cl_print.specs.Expressions.{operator_rank, chain_rank, link_joined}
+use Rattle.std.proofs.Common.{map, drop, sym, ◌∙◌, arith}
+use Rattle.cl_print.specs.Expressions.{chain_rank, link_joined}
 use Rattle.cl_print.proofs.Lines.{further}
 use Rattle.cl_print.proofs.Equations.{links_rank}
 use Rattle.cl_print.proofs.expression.links_rank.Goals as goal

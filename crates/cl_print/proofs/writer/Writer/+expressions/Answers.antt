@@ -1,7 +1,7 @@
-use Rattle.std.proofs.Common.{◌≡◌, ◌+◌, ◌<◌, ◌≤◌, false, List, [], map, drop, length, sym, ap, ◌∙◌, arith}
+use Rattle.std.proofs.Common.{◌+◌, false, map, drop, sym, ap, ◌∙◌, arith}
 use Rattle.std.proofs.lemmas.List.{drop_all}
 use Rattle.cl_print.specs.Spelling.{after}
-use Rattle.cl_print.specs.Expressions.{mark, operator_mark, operand, links, comma, listed, listed_on, all_kinds, expr_said, field_kinds, link_joined}
+use Rattle.cl_print.specs.Expressions.{mark, operator_mark, operand, links, comma, listed_on, all_kinds, expr_said, field_kinds, link_joined}
 use Rattle.cl_print.proofs.Lines.{written_more, written_pair, written_all, further}
 use Rattle.cl_print.proofs.writer.Writer.+expressions.Goals as goal
 

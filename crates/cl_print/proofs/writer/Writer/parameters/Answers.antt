@@ -1,7 +1,7 @@
-use Rattle.std.proofs.Common.{◌≡◌, ◌+◌, ◌<◌, ◌≤◌, false, List, [], map, drop, length, sym, ap, ◌∙◌, arith}
+use Rattle.std.proofs.Common.{◌+◌, false, map, drop, sym, ap, ◌∙◌, arith}
 use Rattle.std.proofs.lemmas.List.{drop_all}
 use Rattle.cl_print.specs.Spelling.{after}
-use Rattle.cl_print.specs.Expressions.{comma, listed, listed_on}
+use Rattle.cl_print.specs.Expressions.{comma, listed_on}
 use Rattle.cl_print.specs.Writing.{parameter_kinds}
 use Rattle.cl_print.proofs.Lines.{written_more, written_all, further}
 use Rattle.cl_print.proofs.writer.Writer.parameters.Goals as goal
