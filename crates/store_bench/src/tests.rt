@@ -1,7 +1,7 @@
 ghost use Rattle.std.specs.Prelude.{◌≡◌, ◌<◌, List, [], ◌∷◌, All, IsTrue, OnOk, IfOk, map};
 ghost use Rattle.cl_value.specs.Views.{plain_ask};
 ghost use Rattle.cl_value.specs.declared.value.Value.{Value as Field};
-ghost use Rattle.store_bench.specs.Asks.{AreOfOne, the_tuple, the_template};
+ghost use Rattle.store_bench.specs.Asks.{IsOfOne, the_tuple, the_template};
 
 use super::*;
 use cl_store::play;
@@ -11,9 +11,9 @@ use std::test::Fail;
 
 // Puts an ask last.
 fn put(asks: &mut Items<Ask>, ask: Ask) -> Result<(), NoMemory>
-    requires before { AreOfOne (map plain_ask asks.old.items) }
-    requires own { AreOfOne (plain_ask ask ∷ []) }
-    ensures { OnOk result (AreOfOne (map plain_ask asks.new.items)) }
+    requires before { All IsOfOne (map plain_ask asks.old.items) }
+    requires own { IsOfOne (plain_ask ask) }
+    ensures { OnOk result (All IsOfOne (map plain_ask asks.new.items)) }
 {
     asks.reserve(1)?;
     asks.push(ask);
@@ -22,7 +22,7 @@ fn put(asks: &mut Items<Ask>, ask: Ask) -> Result<(), NoMemory>
 
 // Asks of each kind, with a match and without one.
 fn all_asks(alloc: Global) -> Result<Items<Ask>, NoMemory>
-    ensures { IfOk result (λ asks. AreOfOne (map plain_ask asks.items)) }
+    ensures { IfOk result (λ asks. All IsOfOne (map plain_ask asks.items)) }
 {
     let mut asks = Items::new(alloc);
     put(&mut asks, Ask::Rdp(asking(alloc)?))?;
@@ -40,6 +40,7 @@ fn all_asks(alloc: Global) -> Result<Items<Ask>, NoMemory>
 }
 
 // Plays them over a store in which nothing is yet.
+#[tactic(auto, using(crate::proofs::Asks::asked, crate::proofs::Asks::admitted, crate::proofs::Asks::fitted))]
 fn check_plays<S: TupleStore, L: Ledger>(
     rt: &impl Abort,
     alloc: Global,
