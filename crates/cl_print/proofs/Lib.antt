@@ -4,4 +4,9 @@ pub mod Words
 pub mod Equations
 pub mod StatementEquations
 pub mod ItemLines
+mod Numerals
+mod Spelled
+mod Splitting
+mod SplittingItems
+mod Refill
 mod Rows

@@ -3,3 +3,6 @@ pub mod Spelling
 pub mod Expressions
 pub mod Statements
 pub mod Writing
+pub mod Sayable
+pub mod Bare
+pub mod Alike
