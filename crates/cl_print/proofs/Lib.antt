@@ -9,4 +9,7 @@ mod Spelled
 mod Splitting
 mod SplittingItems
 mod Refill
+mod Bared
+mod Spoken
+mod Levels
 mod Rows

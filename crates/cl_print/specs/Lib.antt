@@ -6,3 +6,4 @@ pub mod Writing
 pub mod Sayable
 pub mod Bare
 pub mod Alike
+pub mod Seen
