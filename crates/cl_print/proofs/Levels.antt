@@ -6,6 +6,8 @@ use Rattle.cl_rules.specs.Rules.{clear, is_empty}
 use Rattle.cl_rules.specs.Syntax.{Rule, Token, Both, Many, Symbol, Derivation, leaf, pair, none, more, node, tokens, nesting, has, goes_on, derives}
 use Rattle.cl_rules.specs.Values.{value}
 use Rattle.cl_rules.proofs.Laws.{clear_none}
+use Rattle.cl_rules.proofs.Bounds.{pair_parts}
+use Rattle.cl_ast.proofs.Fits.{grammar_fits}
 use Rattle.cl_ast.specs.declared.span.Span.{Span}
 use Rattle.cl_ast.specs.declared.mark.Mark.TheVariants as marks
 use Rattle.cl_ast.specs.declared.tree.Operator.{Operator}
@@ -17,13 +19,14 @@ use Rattle.cl_ast.specs.Plain.{PlainKind, PlainToken, Name, Int, Long, Character
 use Rattle.cl_ast.specs.Classes.{class_of, kind_class, mark_classes}
 use Rattle.cl_ast.specs.Grammar.{Part, rules}
 use Rattle.cl_ast.specs.Grammar as parts
-use Rattle.cl_ast.specs.Tables.{language, lasts}
-use Rattle.cl_ast.specs.Trees.{meaning, kind_operator, to_links}
+use Rattle.cl_ast.specs.Tables.{language, bounds, lasts}
+use Rattle.cl_ast.specs.Trees.{meaning, kind_operator, to_links, to_chain}
 use Rattle.cl_print.specs.Spelling.{one}
-use Rattle.cl_print.specs.Expressions.{Said, Joined, Row, mark, operator_mark, operator_rank, operand, links, expr_said, link_joined}
+use Rattle.cl_print.specs.Expressions.{Said, Joined, Row, mark, operator_mark, operator_rank, operand, links, chain_rank, expr_said, link_joined}
 use Rattle.cl_print.specs.Bare.{nowhere, bare_expr}
 use Rattle.cl_print.specs.Seen.{SameExpr, SameLink, bare_link}
 use Rattle.cl_print.proofs.Splitting.{kinds, kinds_append}
+use Rattle.cl_print.proofs.Equations.{chain_of}
 use Rattle.cl_print.proofs.Bared.{bare_chain, said_made, bare_linked, joined_made}
 use Rattle.cl_print.proofs.Spoken.{Spoken, quiet_before}
 
@@ -31,6 +34,19 @@ use Rattle.cl_print.proofs.Spoken.{Spoken, quiet_before}
 pub record IsLevel (k : ℕ) (p : Part) (classes : List ℕ) : Type 0 where
   pub operators : (kind : PlainKind) → has classes (kind_class kind) ≡ true → (kind ≡ Punctuator (operator_mark (kind_operator kind))) × (operator_rank (kind_operator kind) ≡ k)
   pub apart : (t : PlainToken) → has classes (class_of t) ≡ true → has (lasts p) (class_of t) ≡ false
+
+abbrev SomeLinks : List Link → Type 0
+SomeLinks [] = ⊥
+SomeLinks (x ∷ xs) = Unit {0}
+
+-- two chains of the same parts are the same
+same_chains : (a b : Expr) (xs ys : List Link) (one other : Span) → SameExpr a b → map bare_link xs ≡ map bare_link ys → map link_joined xs ≡ map link_joined ys → SomeLinks xs → SameExpr (to_chain one a xs) (to_chain other b ys)
+same_chains a b [] ys one other s bare joined some = absurd some
+same_chains a b (x ∷ xs) [] one other s bare joined some = absurd cc
+same_chains a b (x ∷ xs) (y ∷ ys) one other s bare joined some = (
+  bare_chain a (x ∷ xs) one ∙ ap₂ (λ f o. exprs.Chain (roll-Chain (record { first = f; others = o; span = nowhere }))) s.0 bare ∙ sym (bare_chain b (y ∷ ys) other),
+  said_made a (x ∷ xs) one ∙ ap₂ chain_of s.1 joined ∙ sym (said_made b (y ∷ ys) other),
+)
 
 -- one operand and what stands behind it
 module _ (k : ℕ) (p : Part) (classes : List ℕ) (example : PlainToken) (of : Derivation rules (Symbol p) → Expr) (level : IsLevel k p classes) where
@@ -84,4 +100,43 @@ module _ (k : ℕ) (p : Part) (classes : List ℕ) (example : PlainToken) (of : 
         begins = λ f e. ap not (e t inner.0);
         bare = ap₂ (λ a b. a ∷ b) (bare_linked (kind_operator t.kind) (of x) ∙ ap (λ z. roll-Link (record { operator = kind_operator t.kind; operand = z })) y.same.0 ∙ sym (bare_linked (kind_operator t.kind) (of y.derivation))) rest.bare;
         joined = ap₂ (λ a b. a ∷ b) (joined_made (kind_operator t.kind) (of x) ∙ ap (λ (z : Said). record { operator = kind_operator t.kind; operand = z }) y.same.1 ∙ sym (joined_made (kind_operator t.kind) (of y.derivation))) rest.joined;
+      }
+
+  -- a link's rank is the level's
+  ranked : (t : PlainToken) (x : Derivation rules (Symbol p)) (xs : Derivation rules (Many OneMore)) → has classes (class_of t) ≡ true → chain_rank (map link_joined (links_of (more (pair (leaf t) x) xs))) ≡ k
+  ranked t x xs h = ap (λ j. operator_rank j.operator) (joined_made (kind_operator t.kind) (of x)) ∙ (level.operators t.kind h).1
+
+  -- an operand with links behind it
+  pub record Chained (y : Derivation rules (Symbol p)) (ls : Derivation rules (Many OneMore)) : Type 0 where
+    pub front : Derivation rules (Symbol p)
+    pub back : Derivation rules (Many OneMore)
+    pub member : derives language (pair front back) ≡ true
+    pub spelled : (span : Span) → kinds (tokens front ++ tokens back) ≡ (expr_said (to_chain span (of y) (links_of ls))).kinds
+    pub nested : max (nesting front) (nesting back) ≤ max (nesting y) (nesting ls)
+    pub same : (one other : Span) → SameExpr (to_chain one (of y) (links_of ls)) (to_chain other (of front) (links_of back))
+    pub rank : (span : Span) → (expr_said (to_chain span (of y) (links_of ls))).rank ≡ k
+
+  pub chained : (y : Derivation rules (Symbol p)) (t : PlainToken) (x : Derivation rules (Symbol p)) (xs : Derivation rules (Many OneMore)) →
+      derives language (pair y (more (pair (leaf {classes = classes} {sample = example} t) x) xs)) ≡ true →
+      Spoken p of (of y) (nesting y) (operand k (expr_said (of y))) → AllSaid (more (pair (leaf t) x) xs) → Chained y (more (pair (leaf t) x) xs)
+  chained y t x xs h s all =
+      let ls : Derivation rules (Many OneMore) = more (pair (leaf t) x) xs in
+      let parts = pair_parts bounds grammar_fits y ls h in
+      let first = and_parts (has classes (class_of t) && (derives language x && clear (λ u. false) (tokens x))) (derives language xs && clear (goes_on language (pair (leaf {classes = classes} {sample = example} t) x)) (tokens xs)) parts.1 in
+      let operator = (and_parts (has classes (class_of t)) (derives language x && clear (λ u. false) (tokens x)) first.0).0 in
+      let l = linked ls parts.1 all in
+      let e = ranked t x xs operator in
+      record {
+        front = s.derivation;
+        back = l.derivation;
+        member =
+          and_from (derives language s.derivation) (derives language l.derivation && clear (goes_on language s.derivation) (tokens l.derivation)) s.member
+          (and_from (derives language l.derivation) (clear (goes_on language s.derivation) (tokens l.derivation)) l.member (l.begins (goes_on language s.derivation) (λ u c. quiet_before p s.derivation u s.member (level.apart u c))));
+        spelled = λ span.
+          kinds_append (tokens s.derivation) (tokens l.derivation) ∙ ap₂ (λ a b. a ++ b) s.spelled l.spelled
+          ∙ ap (λ i. operand i (expr_said (of y)) ++ links i (map link_joined (links_of ls))) (sym e)
+          ∙ ap (λ z. z.kinds) (sym (said_made (of y) (links_of ls) span));
+        nested = (let a = s.nested in let b = l.nested in omega arith);
+        same = λ one other. same_chains (of y) (of s.derivation) (links_of ls) (links_of l.derivation) one other s.same l.bare l.joined tt;
+        rank = λ span. ap (λ z. z.rank) (said_made (of y) (links_of ls) span) ∙ e;
       }
