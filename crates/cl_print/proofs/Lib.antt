@@ -12,4 +12,5 @@ mod Refill
 mod Bared
 mod Spoken
 mod Levels
+mod BaredParts
 mod Rows
