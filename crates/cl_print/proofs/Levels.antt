@@ -48,6 +48,12 @@ same_chains a b (x ∷ xs) (y ∷ ys) one other s bare joined some = (
   said_made a (x ∷ xs) one ∙ ap₂ chain_of s.1 joined ∙ sym (said_made b (y ∷ ys) other),
 )
 
+-- the same of an operand alone
+pub same_chains_or_one : (a b : Expr) (xs ys : List Link) (one other : Span) → SameExpr a b → map bare_link xs ≡ map bare_link ys → map link_joined xs ≡ map link_joined ys → SameExpr (to_chain one a xs) (to_chain other b ys)
+same_chains_or_one a b [] [] one other s bare joined = s
+same_chains_or_one a b [] (y ∷ ys) one other s bare joined = absurd cc
+same_chains_or_one a b (x ∷ xs) ys one other s bare joined = same_chains a b (x ∷ xs) ys one other s bare joined tt
+
 -- one operand and what stands behind it
 module _ (k : ℕ) (p : Part) (classes : List ℕ) (example : PlainToken) (of : Derivation rules (Symbol p) → Expr) (level : IsLevel k p classes) where
   abbrev pub OneMore : Rule PlainToken Part

@@ -13,4 +13,5 @@ mod Bared
 mod Spoken
 mod Levels
 mod BaredParts
+mod Builds
 mod Rows
