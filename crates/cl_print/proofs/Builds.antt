@@ -80,7 +80,7 @@ place_alike t u n m i j a b e bare said = (
   ∙ sym (place_is (roll-Place (record { name = m; index = j; span = b }))),
 )
 
-index_alike : (x y : Index ⊎ Unit {0}) → IndexAlike x y → (option_map bare_expr (index_value x) ≡ option_map bare_expr (index_value y)) × (option_map expr_said (index_value x) ≡ option_map expr_said (index_value y))
+pub index_alike : (x y : Index ⊎ Unit {0}) → IndexAlike x y → (option_map bare_expr (index_value x) ≡ option_map bare_expr (index_value y)) × (option_map expr_said (index_value x) ≡ option_map expr_said (index_value y))
 index_alike (inl x) (inl y) a = (ap (λ z. Some z) a.0, ap (λ z. Some z) a.1)
 index_alike (inr x) (inr y) a = (refl, refl)
 index_alike (inl x) (inr y) a = absurd a

@@ -14,4 +14,5 @@ mod Spoken
 mod Levels
 mod BaredParts
 mod Builds
+mod BuildsStatements
 mod Rows
