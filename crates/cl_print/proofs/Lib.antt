@@ -15,4 +15,5 @@ mod Levels
 mod BaredParts
 mod Builds
 mod BuildsStatements
+mod Replace
 mod Rows

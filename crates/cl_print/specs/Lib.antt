@@ -7,3 +7,4 @@ pub mod Sayable
 pub mod Bare
 pub mod Alike
 pub mod Seen
+pub mod Says
