@@ -153,3 +153,83 @@ kept_front [] [] us vs f e n c = absurd (not_both (sym n))
 kept_front [] (y ∷ ys) us vs f e n c = absurd (not_both (sym e))
 kept_front (x ∷ xs) [] us vs f e n c = absurd (not_both e)
 kept_front (x ∷ xs) (y ∷ ys) us vs f e n c = c
+
+empty_append : (xs ys us vs : List PlainToken) → is_empty xs ≡ is_empty ys → is_empty us ≡ is_empty vs → is_empty (xs ++ us) ≡ is_empty (ys ++ vs)
+empty_append [] [] us vs e f = f
+empty_append [] (y ∷ ys) us vs e f = absurd (not_both (sym e))
+empty_append (x ∷ xs) [] us vs e f = absurd (not_both e)
+empty_append (x ∷ xs) (y ∷ ys) us vs e f = refl
+
+some_of : (f : PlainToken → Bool) (e : Bool) (ts : List PlainToken) → e ≡ false → begins f e ts ≡ true → is_empty ts ≡ false
+some_of f e [] n h = absurd (not_both (sym n ∙ h))
+some_of f e (t ∷ ts) n h = refl
+
+pub replace : {r : Rule PlainToken Part} (x : Derivation rules r) → steady r ≡ true → Settled r → fits bounds r ≡ true → derives language x ≡ true → AllWritten x → Written r x
+replace (leaf t) st se f h w =
+    record { derivation = leaf t; member = h; nested = omega arith; elses = λ u e g. g; empties = refl; fronts = λ k p. refl; alike = refl; spelled = ap (λ k. k ∷ []) (sym (se t.kind h)) }
+replace empty st se f h w = record { derivation = empty; member = refl; nested = omega arith; elses = λ u e g. g; empties = refl; fronts = λ k p. refl; alike = tt; spelled = refl }
+replace (pair {a} {b} x y) st se f h w =
+    let s1 = and_parts (steady a) (steady b && stands_apart a b) st in
+    let s2 = and_parts (steady b) (stands_apart a b) s1.1 in
+    let fit = both_fits bounds grammar_fits a b f in
+    let parts = pair_parts bounds grammar_fits x y h in
+    let v = replace x s1.0 se.0 fit.0 parts.0 w.0 in
+    let u = replace y s2.0 se.1 fit.1 parts.1 w.1 in
+    record {
+      derivation = pair v.derivation u.derivation;
+      member =
+        and_from (derives language v.derivation) (derives language u.derivation && clear (goes_on language v.derivation) (tokens u.derivation)) v.member
+        (and_from (derives language u.derivation) (clear (goes_on language v.derivation) (tokens u.derivation)) u.member (stands a b x y v u fit.0 fit.1 parts.1 s2.1 parts.2));
+      nested = (let m = v.nested in let n = u.nested in omega arith);
+      elses = λ t e g. goes_pair (goes_on language u.derivation t) (goes_on language v.derivation t) (goes_on language y t) (goes_on language x t) (is_empty (tokens u.derivation)) (is_empty (tokens y)) u.empties (u.elses t e) (v.elses t e) g;
+      empties = empty_append (tokens v.derivation) (tokens x) (tokens u.derivation) (tokens y) v.empties u.empties;
+      fronts = λ k p.
+        (let both = and_parts (keeps_first a) (not (may_be_empty a)) k in
+        kept_front (tokens v.derivation) (tokens x) (tokens u.derivation) (tokens y) p v.empties
+        (some_of (opens language a) (may_be_empty a) (tokens x) (not-true (may_be_empty a) both.1) (derivation_starts bounds grammar_fits x fit.0 parts.0)) (v.fronts both.0 p));
+      alike = (v.alike, u.alike);
+      spelled = kinds_append (tokens v.derivation) (tokens u.derivation) ∙ ap₂ (λ p q. p ++ q) v.spelled u.spelled;
+    }
+replace (first {a} {b} x) st se f h w =
+    let s1 = and_parts (steady a) (steady b) st in
+    let fit = either_fits bounds grammar_fits a b f in
+    let v = replace x s1.0 se.0 fit.0 h w in
+    record { derivation = first v.derivation; member = v.member; nested = v.nested; elses = v.elses; empties = v.empties; fronts = λ k p. v.fronts (and_parts (keeps_first a) (keeps_first b) k).0 p; alike = v.alike; spelled = v.spelled }
+replace (second {a} {b} x) st se f h w =
+    let s1 = and_parts (steady a) (steady b) st in
+    let fit = either_fits bounds grammar_fits a b f in
+    let v = replace x s1.1 se.1 fit.1 h w in
+    record {
+      derivation = second v.derivation;
+      member = v.member;
+      nested = v.nested;
+      elses = λ t e g. goes_pair (goes_on language v.derivation t) (opens language a t) (goes_on language x t) (opens language a t) (is_empty (tokens v.derivation)) (is_empty (tokens x)) v.empties (v.elses t e) (λ o. o) g;
+      empties = v.empties;
+      fronts = λ k p. v.fronts (and_parts (keeps_first a) (keeps_first b) k).1 p;
+      alike = v.alike;
+      spelled = v.spelled;
+    }
+replace none st se f h w = record { derivation = none; member = refl; nested = omega arith; elses = λ u e g. g; empties = refl; fronts = λ k p. refl; alike = tt; spelled = refl }
+replace (more {a} x xs) st se f h w =
+    let s1 = and_parts (steady a) (apart (starts firsts a) (ends firsts lasts a)) st in
+    let fit = many_fits bounds grammar_fits a f in
+    let parts = pair_parts bounds grammar_fits x xs h in
+    let v = replace x s1.0 se fit.0 parts.0 w.0 in
+    let u = replace xs st se f parts.1 w.1 in
+    record {
+      derivation = more v.derivation u.derivation;
+      member =
+        and_from (derives language v.derivation) (derives language u.derivation && clear (goes_on language v.derivation) (tokens u.derivation)) v.member
+        (and_from (derives language u.derivation) (clear (goes_on language v.derivation) (tokens u.derivation)) u.member (apart_clear a (Many a) v.derivation u.derivation fit.0 f v.member u.member s1.1));
+      nested = (let m = v.nested in let n = u.nested in omega arith);
+      elses = λ t e g. goes_pair (goes_on language u.derivation t) (goes_on language v.derivation t) (goes_on language xs t) (goes_on language x t) (is_empty (tokens u.derivation)) (is_empty (tokens xs)) u.empties (u.elses t e) (v.elses t e) g;
+      empties = empty_append (tokens v.derivation) (tokens x) (tokens u.derivation) (tokens xs) v.empties u.empties;
+      fronts = λ k p. absurd (not_both k);
+      alike = (v.alike, u.alike);
+      spelled = kinds_append (tokens v.derivation) (tokens u.derivation) ∙ ap₂ (λ p q. p ++ q) v.spelled u.spelled;
+    }
+replace (part {a} x) st se f h w =
+    let fit = many_fits bounds grammar_fits a f in
+    let v = replace x st se fit.0 h w in
+    record { derivation = part v.derivation; member = v.member; nested = (let m = v.nested in omega arith); elses = v.elses; empties = v.empties; fronts = λ k p. v.fronts k p; alike = v.alike; spelled = v.spelled }
+replace (node s x) st se f h w = w
