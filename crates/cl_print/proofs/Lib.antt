@@ -16,4 +16,5 @@ mod BaredParts
 mod Builds
 mod BuildsStatements
 mod Replace
+mod Settled
 mod Rows

@@ -1,5 +1,5 @@
 -- What is written of each part of the grammar, and of the parts of a rule. (This project.)
-use Rattle.std.specs.Prelude.{ℕ, ◌==◌, ◌⊎◌, Bool, true, false, List, [], ◌∷◌, ◌++◌, map, if◌then◌else◌}
+use Rattle.std.specs.Prelude.{ℕ, ◌==◌, ◌||◌, ◌⊎◌, Bool, true, false, List, [], ◌∷◌, ◌++◌, map, if◌then◌else◌}
 use Rattle.std.proofs.Common.{inl, inr}
 use Rattle.cl_rules.specs.Syntax.{Rule, Token, Nothing, Both, Either, Many, Counted, Symbol}
 use Rattle.cl_rules.specs.Values.{Parts}
@@ -70,7 +70,7 @@ some_said c k =
     if c == 1 then constant_kind (kind_constant k)
     else (if c == 0 then size_said k
     else (if c == 7 then plain.Keyword (type_word (kind_type k))
-    else (if (c == 18) then plain.Keyword (verb_word (kind_verb k))
+    else (if (c == 18) || (c == 21) then plain.Keyword (verb_word (kind_verb k))
     else (if c == 35 then change_said k
     else (if c == 39 then step_said (is_decrement k)
     else leave_said k)))))
