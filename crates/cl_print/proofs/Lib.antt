@@ -17,4 +17,6 @@ mod Builds
 mod BuildsStatements
 mod Replace
 mod Settled
+mod PartsSaid
+mod Canon
 mod Rows

@@ -135,7 +135,7 @@ stands a c x y v w fa fc hy apart_or free =
 
 -- ---- going on
 
-not_both : ◌≡◌ {A = Bool} false true → ⊥
+pub not_both : ◌≡◌ {A = Bool} false true → ⊥
 not_both e = cc
 
 goes_pair : (a c d e p q : Bool) → p ≡ q → (a ≡ true → d ≡ true) → (c ≡ true → e ≡ true) → (a || (p && c)) ≡ true → (d || (q && e)) ≡ true
@@ -160,7 +160,7 @@ empty_append [] (y ∷ ys) us vs e f = absurd (not_both (sym e))
 empty_append (x ∷ xs) [] us vs e f = absurd (not_both e)
 empty_append (x ∷ xs) (y ∷ ys) us vs e f = refl
 
-some_of : (f : PlainToken → Bool) (e : Bool) (ts : List PlainToken) → e ≡ false → begins f e ts ≡ true → is_empty ts ≡ false
+pub some_of : (f : PlainToken → Bool) (e : Bool) (ts : List PlainToken) → e ≡ false → begins f e ts ≡ true → is_empty ts ≡ false
 some_of f e [] n h = absurd (not_both (sym n ∙ h))
 some_of f e (t ∷ ts) n h = refl
 
