@@ -40,7 +40,7 @@ Within (part x) = Within x
 Within (node s x) = Canon s x
 
 -- an expression stands as it is written where no operator stands beside it
-some_tokens : (s : Part) (x : Derivation rules (Symbol s)) → derives language x ≡ true → is_empty (tokens x) ≡ false
+pub some_tokens : (s : Part) (x : Derivation rules (Symbol s)) → derives language x ≡ true → is_empty (tokens x) ≡ false
 some_tokens s x h = some_of (opens language (Symbol s)) false (tokens x) refl (derivation_starts bounds grammar_fits x refl h)
 
 pub expr_written : (x : Derivation rules (rules parts.expr)) → derives language x ≡ true → Canon parts.expr x → Written (Symbol parts.expr) (node parts.expr x)

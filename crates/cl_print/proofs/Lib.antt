@@ -19,4 +19,6 @@ mod Replace
 mod Settled
 mod PartsSaid
 mod Canon
+mod ExprSteps
+mod LevelSteps
 mod Rows

@@ -70,7 +70,7 @@ some_said c k =
     if c == 1 then constant_kind (kind_constant k)
     else (if c == 0 then size_said k
     else (if c == 7 then plain.Keyword (type_word (kind_type k))
-    else (if (c == 18) || (c == 21) then plain.Keyword (verb_word (kind_verb k))
+    else (if (c == 19) || (c == 22) then plain.Keyword (verb_word (kind_verb k))
     else (if c == 35 then change_said k
     else (if c == 39 then step_said (is_decrement k)
     else leave_said k)))))
