@@ -21,4 +21,5 @@ mod PartsSaid
 mod Canon
 mod ExprSteps
 mod LevelSteps
+mod PartsSaidStatements
 mod Rows
