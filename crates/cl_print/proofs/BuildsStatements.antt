@@ -50,16 +50,15 @@ kind_of t = t.kind
 abbrev PartsAlike : (p : Part) → Parts tree_of (rules p) → Parts tree_of (rules p) → Type 0
 PartsAlike p x y = Alike kind_of tree_of same (rules p) x y
 
-ap₃ : {A B C D : Type 0} (f : A → B → C → D) {a a' : A} {b b' : B} {c c' : C} → a ≡ a' → b ≡ b' → c ≡ c' → f a b c ≡ f a' b' c'
+pub ap₃ : {A B C D : Type 0} (f : A → B → C → D) {a a' : A} {b b' : B} {c c' : C} → a ≡ a' → b ≡ b' → c ≡ c' → f a b c ≡ f a' b' c'
 ap₃ f {a' = a'} {b' = b'} {c = c} p q r = ap₂ (λ x y. f x y c) p q ∙ ap (f a' b') r
 
 -- ---- changes
 
-SameChange : Change → Change → Type 0
+abbrev pub SameChange : Change → Change → Type 0
 SameChange x y = Tells bare_change change_kinds x y
 
 changed : (k : PlainKind) (x y : Expr) → SameExpr x y → SameChange (kind_change k x) (kind_change k y)
-unfolding SameChange
 changed (plain.Punctuator marks.PlusAssign) x y a = (ap changes.Add a.0, ap (λ z. mark marks.PlusAssign ++ z.kinds) a.1)
 changed (plain.Punctuator marks.MinusAssign) x y a = (ap changes.Subtract a.0, ap (λ z. mark marks.MinusAssign ++ z.kinds) a.1)
 changed (plain.Punctuator marks.TimesAssign) x y a = (ap changes.Multiply a.0, ap (λ z. mark marks.TimesAssign ++ z.kinds) a.1)
@@ -67,7 +66,6 @@ changed (plain.Punctuator m) x y a = (ap changes.Set a.0, ap (λ z. mark marks.A
 changed k x y a = (ap changes.Set a.0, ap (λ z. mark marks.Assign ++ z.kinds) a.1)
 
 stepped : (t u : PlainToken) → t.kind ≡ u.kind → SameChange (to_step (is_decrement t.kind)) (to_step (is_decrement u.kind))
-unfolding SameChange
 stepped t u e = (ap (λ k. bare_change (to_step (is_decrement k))) e, ap (λ k. change_kinds (to_step (is_decrement k))) e)
 
 to_change_alike : (x y : (PlainToken × Expr) ⊎ PlainToken) → either_alike (λ p q. (p.0.kind ≡ q.0.kind) × SameExpr p.1 q.1) (λ t u. t.kind ≡ u.kind) x y → SameChange (to_change x) (to_change y)
@@ -76,8 +74,8 @@ to_change_alike (inr t) (inr u) a = stepped t u a
 to_change_alike (inl x) (inr u) a = absurd a
 to_change_alike (inr t) (inl y) a = absurd a
 
-to_assign_alike : (ts us : List PlainToken) (p q : Place) (c d : Change) → Tells bare_place place_kinds p q → SameChange c d → SameStmt (to_assign ts p c) (to_assign us q d)
-unfolding SameChange assign_kinds
+pub to_assign_alike : (ts us : List PlainToken) (p q : Place) (c d : Change) → Tells bare_place place_kinds p q → SameChange c d → SameStmt (to_assign ts p c) (to_assign us q d)
+unfolding assign_kinds
 to_assign_alike ts us p q c d a b = (
   bare_stmt_assign (record { place = p; change = c; span = span_of ts }) ∙ ap₂ (λ x y. stmts.Assign (record { place = x; change = y; span = nowhere })) a.0 b.0 ∙ sym (bare_stmt_assign (record { place = q; change = d; span = span_of us })),
   line_assign (record { place = p; change = c; span = span_of ts }) ∙ ap₂ (λ (x y : Row). record { kinds = x ++ y; ends = true }) a.1 b.1 ∙ sym (line_assign (record { place = q; change = d; span = span_of us })),
@@ -339,7 +337,7 @@ to_params_alike x y a = by x.1.0 y.1.0 a.1.0
     by (inr x) (inl (inl u)) a = absurd a
     by (inr x) (inl (inr y)) a = absurd a
 
-function_alike : (ts us : List PlainToken) (r q : Option TypeName) (t u : PlainToken) (xs ys : List Parameter) (b c : Block) → r ≡ q → t.kind ≡ u.kind → all_alike SameParameter xs ys → Tells bare_block block_kinds b c →
+pub function_alike : (ts us : List PlainToken) (r q : Option TypeName) (t u : PlainToken) (xs ys : List Parameter) (b c : Block) → r ≡ q → t.kind ≡ u.kind → all_alike SameParameter xs ys → Tells bare_block block_kinds b c →
     Tells bare_item item_written (to_function ts r t xs b) (to_function us q u ys c)
 unfolding function_kinds
 function_alike ts us r q t u xs ys b c e k a d =

@@ -22,4 +22,6 @@ mod Canon
 mod ExprSteps
 mod LevelSteps
 mod PartsSaidStatements
+mod StatementSteps
+mod Canonical
 mod Rows

@@ -180,7 +180,7 @@ unfolding one
 given_are ts (inl x) = ap (λ k. plain.Punctuator marks.OpenSquare ∷ k ∷ plain.Punctuator marks.CloseSquare ∷ []) (size_is x.1.0 x.1.0.kind refl)
 given_are ts (inr x) = refl
 
-given_said : (t : PlainToken) (g : Given ⊎ Unit {0}) → declarator_kinds (to_declarator t g) ≡ plain.Name (token_bytes t) ∷ either_said (part_said parts.given) (λ u. []) g
+pub given_said : (t : PlainToken) (g : Given ⊎ Unit {0}) → declarator_kinds (to_declarator t g) ≡ plain.Name (token_bytes t) ∷ either_said (part_said parts.given) (λ u. []) g
 unfolding declarator_kinds one
 given_said t (inl g) = refl
 given_said t (inr u) = refl

@@ -94,7 +94,7 @@ begins_first : (f : PlainToken → Bool) (e : Bool) (ts us : List PlainToken) (t
 begins_first f e ts us t same h = subst (λ (l : List PlainToken). begins f e l ≡ true) same h
 
 -- no part goes on with what stands behind it in its new place
-apart_clear : (a c : Rule PlainToken Part) (x : Derivation rules a) (y : Derivation rules c) → fits bounds a ≡ true → fits bounds c ≡ true → derives language x ≡ true → derives language y ≡ true →
+pub apart_clear : (a c : Rule PlainToken Part) (x : Derivation rules a) (y : Derivation rules c) → fits bounds a ≡ true → fits bounds c ≡ true → derives language x ≡ true → derives language y ≡ true →
     apart (starts firsts c) (ends firsts lasts a) ≡ true → clear (goes_on language x) (tokens y) ≡ true
 apart_clear a c x y fa fc hx hy free =
     clear_of (goes_on language x) (tokens y) (λ t us e. elim (cases_Bool (goes_on language x t)) [

@@ -166,7 +166,7 @@ all_leads (x ∷ xs) say =
     subst (λ (bytes : List ℕ). Leads true bytes (item_pieces x ++ all_pieces xs) true []) (sym (text_append (item_written x) (written xs)))
     (leads_on true true true (text_of (item_written x) ++ canonical xs) (canonical xs) [] (item_pieces x) (all_pieces xs) (item_leads x (canonical xs) both.0) (all_leads xs both.1))
 
-written_append : (xs ys : List Written) → written_kinds (xs ++ ys) ≡ written_kinds xs ++ written_kinds ys
+pub written_append : (xs ys : List Written) → written_kinds (xs ++ ys) ≡ written_kinds xs ++ written_kinds ys
 written_append [] ys = refl
 written_append (x ∷ xs) ys = ap (λ ks. x.kind ∷ ks) (written_append xs ys)
 
