@@ -24,4 +24,5 @@ mod LevelSteps
 mod PartsSaidStatements
 mod StatementSteps
 mod Canonical
+mod Back
 mod Rows

@@ -8,3 +8,4 @@ pub mod Bare
 pub mod Alike
 pub mod Seen
 pub mod Says
+pub mod Back
