@@ -1,10 +1,10 @@
 -- Values of a coded type that no weight tells apart are one.
-use Rattle.std.proofs.Common.{◌≡◌, ℕ, eqb, eq-eqb, zero, suc, ◌+◌, Bool, true, false, true≢false, refl, sym, ap, subst, arith, ◌∙◌}
+use Rattle.std.proofs.Common.{◌≡◌, ℕ, eqb, eq-eqb, zero, suc, ◌+◌, ◌≤◌, Bool, true, false, true≢false, refl, sym, ap, subst, arith, ◌∙◌}
 use base.Stored.{Gv, gnil, gnum, gcons, Coded}
 use Rattle.cl_value.specs.Plain.{PlainAct}
 use Rattle.cl_ticket.specs.Codes.{act_coded}
 
-abbrev both_true : Bool → Bool → Bool
+abbrev pub both_true : Bool → Bool → Bool
 both_true true b = b
 both_true false b = false
 
@@ -16,7 +16,7 @@ right_true : (a b : Bool) → both_true a b ≡ true → b ≡ true
 right_true true b e = e
 right_true false b e = absurd (true≢false (sym e))
 
-abbrev same : Gv → Gv → Bool
+abbrev pub same : Gv → Gv → Bool
 same gnil gnil = true
 same (gnum m) (gnum n) = eqb m n
 same (gcons a b) (gcons c d) = both_true (same a c) (same b d)
@@ -41,7 +41,7 @@ same-is (gnum m) (gcons a b) e = absurd (true≢false (sym e))
 same-is (gcons a b) gnil e = absurd (true≢false (sym e))
 same-is (gcons a b) (gnum n) e = absurd (true≢false (sym e))
 
-abbrev one_if : Bool → ℕ
+abbrev pub one_if : Bool → ℕ
 one_if true = 1
 one_if false = 0
 
@@ -57,3 +57,17 @@ told-apart c x y all =
 
 pub acts-told-apart : (x y : PlainAct) → ((g : PlainAct → ℕ) → g x ≡ g y) → x ≡ y
 acts-told-apart = told-apart act_coded
+
+-- the weight of one value of a coded type
+abbrev pub match_weight : {A : Type 0} → Coded A → A → A → ℕ
+match_weight c x y = one_if (same (c.code x) (c.code y))
+
+pub match-self : {A : Type 0} (c : Coded A) (x : A) → match_weight c x x ≡ 1
+match-self c x = ap one_if (same-self (c.code x))
+
+some-one : (b : Bool) → 1 ≤ one_if b → b ≡ true
+some-one true le = refl
+some-one false le = absurd (omega arith)
+
+pub match-is : {A : Type 0} (c : Coded A) (x y : A) → 1 ≤ match_weight c x y → x ≡ y
+match-is c x y le = c.inj x y (same-is (c.code x) (c.code y) (some-one (same (c.code x) (c.code y)) le))

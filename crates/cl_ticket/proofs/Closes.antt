@@ -6,9 +6,9 @@ use lib.ListN.{get_elem?}
 use Rattle.cl_ticket.specs.Weights.{weigh, upto, under, Each}
 use Rattle.cl_ticket.specs.Rule.{spent, by_birth, by_root, if_eval, name_of, in_sets, of_persons, evals, births, numbers, known, Fits, FitsHistory, FitsHalt, halters, Ruled, Holds}
 use Rattle.cl_ticket.specs.Steps.{end_view, root_sets, sets_known, person_in, others_in}
-use Rattle.cl_value.specs.Plain.{PlainAct}
+use Rattle.cl_value.specs.Plain.{PlainAct, PlainHistory}
 use Rattle.cl_value.specs.Acts.{is_eval}
-use Rattle.cl_ticket.specs.Persons.{Origin, Root, Born, Person, Ledger}
+use Rattle.cl_ticket.specs.Persons.{Origin, Root, Born, Person}
 use Rattle.cl_ticket.specs.declared.view.View.{View}
 use Rattle.cl_ticket.proofs.Draws.{births-less}
 use Rattle.cl_ticket.proofs.Sums.{weigh-at, weigh-set, weigh-none, weigh-plus, weigh-count, weigh-zero, each-map, each-both, each-at, under-count, none-listed}
@@ -46,7 +46,7 @@ weightless v a b c =
     let u = none-listed v.unborn (omega arith) in
     λ i. record { opening = o i; sets = s i; persons = p i; unborn = u i }
 
-module _ (n : ℕ) (views : List View) (id k : ℕ) (main : Person) (gathered : List Person) (sets : List Ledger) where
+module _ (n : ℕ) (views : List View) (id k : ℕ) (main : Person) (gathered : List Person) (sets : List PlainHistory) where
   abbrev last : View
   last = end_view (root_person k main ∷ gathered) sets
 
@@ -72,7 +72,7 @@ module _ (n : ℕ) (views : List View) (id k : ℕ) (main : Person) (gathered : 
       let e = r.numbered (λ k. 1) in
       let numbers_others : weigh (numbers (λ k. 1)) others ≡ 0 = omega arith in
       let each_numbers = weigh-none (numbers (λ k. 1)) others numbers_others in
-      let sets_others : weigh (in_sets (λ a. if_eval (is_eval a.what) 1)) others ≡ 0 = weigh-zero (in_sets (λ a. if_eval (is_eval a.what) 1)) others (each-map (λ v. numbers (λ k. 1) v ≡ 0) (λ v. in_sets (λ a. if_eval (is_eval a.what) 1) v ≡ 0) others (λ v z. ap (λ (l : List Ledger). weigh (λ (s : Ledger). weigh (λ (a : PlainAct). if_eval (is_eval a.what) 1) s.acts) l) (none-listed v.sets z)) each_numbers) in
+      let sets_others : weigh (in_sets (λ a. if_eval (is_eval a.what) 1)) others ≡ 0 = weigh-zero (in_sets (λ a. if_eval (is_eval a.what) 1)) others (each-map (λ v. numbers (λ k. 1) v ≡ 0) (λ v. in_sets (λ a. if_eval (is_eval a.what) 1) v ≡ 0) others (λ v z. ap (λ (l : List PlainHistory). weigh (λ (s : PlainHistory). weigh (λ (a : PlainAct). if_eval (is_eval a.what) 1) s.acts) l) (none-listed v.sets z)) each_numbers) in
       let sets_all = parts (in_sets (λ a. if_eval (is_eval a.what) 1)) refl at in
       let own = r.owners (λ a. if_eval (is_eval a.what) 1) in
       let born = r.born (λ b. 1) in
@@ -109,8 +109,8 @@ persons-as : (persons : List Person) (k : ℕ) → persons ≡ person_in persons
 persons-as persons k is root = is ∙ ap (λ (o : Origin). record { origin = o; acts = (person_in persons).acts; full = (person_in persons).full; failed = (person_in persons).failed; saw = (person_in persons).saw } ∷ others_in persons) root
 
 -- what is known once the table is closed
-pub closed : (ws : List ℕ) (xs : List (Unit {0})) (id k next halt : ℕ) (v : View) (persons : List Person) (sets : List Ledger) → Final (Seen (λ (s : State (Unit {0}) View). Holds s.words s.views) id v) ws xs → get_elem? ws 0 ≡ some next → get_elem? ws 1 ≡ some halt → v ≡ end_view persons sets
-    → persons ≡ person_in persons ∷ others_in persons → (person_in persons).origin ≡ Root k → length sets ≡ k → length (others_in persons) ≡ weigh (λ (s : Ledger). weigh (λ (a : PlainAct). if_eval (is_eval a.what) 1) s.acts) sets
+pub closed : (ws : List ℕ) (xs : List (Unit {0})) (id k next halt : ℕ) (v : View) (persons : List Person) (sets : List PlainHistory) → Final (Seen (λ (s : State (Unit {0}) View). Holds s.words s.views) id v) ws xs → get_elem? ws 0 ≡ some next → get_elem? ws 1 ≡ some halt → v ≡ end_view persons sets
+    → persons ≡ person_in persons ∷ others_in persons → (person_in persons).origin ≡ Root k → length sets ≡ k → length (others_in persons) ≡ weigh (λ (s : PlainHistory). weigh (λ (a : PlainAct). if_eval (is_eval a.what) 1) s.acts) sets
     → ((0 < next) × Ruled (next - 1) (end_view persons sets ∷ [])) × (FitsHalt halt (end_view persons sets) × (0 < halt → 1 ≤ halters halt (end_view persons sets)))
 closed ws xs id k next halt v persons sets final found found' is some_person root all_sets all_gathered =
     let st = final.0 in
@@ -157,16 +157,17 @@ root-of n views id m v p rest r at is (Born b) o none told =
     at-zero (suc k) e = absurd (omega arith)
 
 -- the same for tokens of a run with m sets
-pub closed_as : (ws : List ℕ) (xs : List (Unit {0})) (id m next halt : ℕ) (v : View) (persons : List Person) (sets : List Ledger) → Final (Seen (λ (s : State (Unit {0}) View). Holds s.words s.views) id v) ws xs → get_elem? ws 0 ≡ some next → get_elem? ws 1 ≡ some halt → v ≡ end_view persons sets
-    → persons ≡ person_in persons ∷ others_in persons → name_of (person_in persons).origin ≡ 0 → root_sets persons m ≡ m → length sets ≡ m → length (others_in persons) ≡ weigh (λ (s : Ledger). weigh (λ (a : PlainAct). if_eval (is_eval a.what) 1) s.acts) sets
-    → ((0 < next) × Ruled (next - 1) (end_view persons sets ∷ [])) × (FitsHalt halt (end_view persons sets) × (0 < halt → 1 ≤ halters halt (end_view persons sets)))
+pub closed_as : (ws : List ℕ) (xs : List (Unit {0})) (id m next halt : ℕ) (v : View) (persons : List Person) (sets : List PlainHistory) → Final (Seen (λ (s : State (Unit {0}) View). Holds s.words s.views) id v) ws xs → get_elem? ws 0 ≡ some next → get_elem? ws 1 ≡ some halt → v ≡ end_view persons sets
+    → persons ≡ person_in persons ∷ others_in persons → name_of (person_in persons).origin ≡ 0 → root_sets persons m ≡ m → length sets ≡ m → length (others_in persons) ≡ weigh (λ (s : PlainHistory). weigh (λ (a : PlainAct). if_eval (is_eval a.what) 1) s.acts) sets
+    → ((0 < next) × Ruled (next - 1) (end_view persons sets ∷ [])) × (FitsHalt halt (end_view persons sets) × (0 < halt → 1 ≤ halters halt (end_view persons sets))) × ((person_in persons).origin ≡ Root m)
 closed_as ws xs id m next halt v persons sets final found found' is some_person none told all_sets all_gathered =
     let h = final.1.0 in
     let k : sets_known (person_in persons).origin m ≡ m = subst (λ (ps : List Person). root_sets ps m ≡ m) some_person told in
     let root = root-of h.n final.0.views id m v (person_in persons) (others_in persons) h.ruled final.1.1 (ap (λ (w : View). w.persons) is ∙ some_person) (person_in persons).origin refl none k in
-    closed ws xs id m next halt v persons sets final found found' is some_person root all_sets all_gathered
+    let all = closed ws xs id m next halt v persons sets final found found' is some_person root all_sets all_gathered in
+    (all.0, all.1, root)
 
 -- what is known of full sets at the end
-pub closed-marks : (ws : List ℕ) (xs : List (Unit {0})) (id : ℕ) (v : View) (persons : List Person) (sets : List Ledger) → Final (Seen (λ (s : State (Unit {0}) View). Holds s.words s.views) id v) ws xs → v ≡ end_view persons sets
+pub closed-marks : (ws : List ℕ) (xs : List (Unit {0})) (id : ℕ) (v : View) (persons : List Person) (sets : List PlainHistory) → Final (Seen (λ (s : State (Unit {0}) View). Holds s.words s.views) id v) ws xs → v ≡ end_view persons sets
     → (history : ℕ → List PlainAct) × FitsHistory history (end_view persons sets)
 closed-marks ws xs id v persons sets final e = let h = final.1.0 in (h.history, subst (FitsHistory h.history) e (each-at (FitsHistory h.history) final.0.views id v final.1.1 h.marked))

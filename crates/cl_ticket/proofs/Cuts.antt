@@ -4,7 +4,7 @@ use mathlib.Core.Option.{some}
 use lib.ListN.{get_elem?}
 use Rattle.cl_ticket.specs.Weights.{weigh, under, Each}
 use Rattle.cl_ticket.specs.Rule.{opening_view, set_view, process_view, of_persons, evals, births, known, FitsPerson, FitsHalt, FitsUnborn, halters, Holds}
-use Rattle.cl_ticket.specs.Steps.{fresh_views, ledger, left_opening, right_opening, left_last, left_leave, right_leave, left_born, right_born, first_born}
+use Rattle.cl_ticket.specs.Steps.{plain_history, left_opening, right_opening, left_last, left_leave, right_leave, left_born, right_born, first_born}
 use mathlib.Core.List.{IsPrefix}
 use Rattle.cl_value.specs.Plain.{PlainAct}
 use Rattle.cl_ticket.specs.Persons.{Person, Mark, Birth}
@@ -94,6 +94,3 @@ born-balances v = record {
 -- the process of the last eval is born
 pub bears : (words : List ℕ) (views : List View) (id : ℕ) (v : View) → Holds words views → get_elem? views id ≡ some v → Holds words (set views id (left_born v) ++ right_born v ∷ [])
 bears words views id v h e = cuts words views id v (left_born v) (right_born v) h e (born-balances v) (λ f. ((f.0, f.1, f.2, each-rest (FitsUnborn v) v.unborn f.3), (tt, born-fits v.unborn, tt, tt))) (λ history none m. ((m.0, m.1), (tt, born-marks history v.unborn))) (λ m. ((λ x. (x, born-halt m v.unborn)), omega (arith, born-halters m v.unborn)))
-
-pub fresh-more : (last n : ℕ) → suc last ≡ n → fresh_views last ++ set_view (ledger last []) [] [] ∷ [] ≡ fresh_views n
-fresh-more last n e = ap fresh_views e

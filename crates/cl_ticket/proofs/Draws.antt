@@ -4,10 +4,10 @@ use mathlib.Core.Option.{some}
 use lib.ListN.{get_elem?}
 use Rattle.cl_ticket.specs.Weights.{weigh, under, Each}
 use Rattle.cl_ticket.specs.Rule.{FitsUnborn, of_ticket, set_view, name_of, depth_of, by_birth, by_root, if_eval, in_sets, of_persons, evals, births, numbers, known, opened, Rises, Fits, FitsSet, FitsPerson, Ruled}
-use Rattle.cl_ticket.specs.Steps.{with_act, ledger, act_of, drawn_view, unborn_after}
-use Rattle.cl_value.specs.Plain.{PlainWhat, PlainAct}
+use Rattle.cl_ticket.specs.Steps.{with_act, plain_history, act_of, drawn_view, unborn_after}
+use Rattle.cl_value.specs.Plain.{PlainWhat, PlainAct, PlainHistory}
 use Rattle.cl_value.specs.Acts.{is_eval}
-use Rattle.cl_ticket.specs.Persons.{Birth, Origin, Root, Born, Person, Ledger}
+use Rattle.cl_ticket.specs.Persons.{Birth, Origin, Root, Born, Person}
 use Rattle.cl_ticket.specs.declared.view.View.{View}
 use Rattle.cl_ticket.proofs.Sums.{weigh-append, weigh-at, weigh-none, weigh-most, weigh-less, weigh-plus, weigh-count, upto-none, upto-count, under-count, each-at, each-set, each-append, each-map}
 use Rattle.cl_ticket.proofs.Keeps.{replaces-one}
@@ -23,10 +23,10 @@ upto-within : (n : ℕ) (l : List PlainAct) → Each (λ (a : PlainAct). past n 
 upto-within n l all = each-map (λ (a : PlainAct). past n a ≡ 0) (λ (a : PlainAct). a.ticket < suc n) l (λ a e. omega arith) all
 
 -- No ticket in a set is above the number of acts
-pub sets-within : (n : ℕ) (views : List View) (id : ℕ) (v : View) → Ruled n views → get_elem? views id ≡ some v → Each (λ (s : Ledger). Each (λ (a : PlainAct). a.ticket < suc n) s.acts) v.sets
+pub sets-within : (n : ℕ) (views : List View) (id : ℕ) (v : View) → Ruled n views → get_elem? views id ≡ some v → Each (λ (s : PlainHistory). Each (λ (a : PlainAct). a.ticket < suc n) s.acts) v.sets
 sets-within n views id v r e =
     let all : in_sets (past n) v ≡ 0 = let a = weigh-at (in_sets (past n)) views id v e in let b = none-past n views r in omega arith in
-    each-map (λ (s : Ledger). weigh (past n) s.acts ≡ 0) (λ (s : Ledger). Each (λ (a : PlainAct). a.ticket < suc n) s.acts) v.sets (λ s z. upto-within n s.acts (weigh-none (past n) s.acts z)) (weigh-none (λ (s : Ledger). weigh (past n) s.acts) v.sets all)
+    each-map (λ (s : PlainHistory). weigh (past n) s.acts ≡ 0) (λ (s : PlainHistory). Each (λ (a : PlainAct). a.ticket < suc n) s.acts) v.sets (λ s z. upto-within n s.acts (weigh-none (past n) s.acts z)) (weigh-none (λ (s : PlainHistory). weigh (past n) s.acts) v.sets all)
 
 persons-past : (n : ℕ) (views : List View) (id : ℕ) (v : View) → Ruled n views → get_elem? views id ≡ some v → of_persons (past n) v ≡ 0
 persons-past n views id v r e = let a = weigh-at (of_persons (past n)) views id v e in let b = none-past n views r in let c = r.owners (past n) in omega arith
@@ -51,7 +51,7 @@ pub births-less : (h : PlainAct → ℕ) (n : ℕ) (views : List View) → Ruled
 births-less h n views r = let a = weigh-less (evals (λ b. h b.act)) (of_persons h) (evals-less h) views in let b = r.owners h in let c = r.born (λ b. h b.act) in omega arith
 
 -- The name of a person is at most the number of acts
-pub name-within : (n : ℕ) (views : List View) (id : ℕ) (p : Person) (rest : List Person) (s : Ledger) (u : List Birth) → Ruled n views → get_elem? views id ≡ some (set_view s (p ∷ rest) u) → (o : Origin) → p.origin ≡ o → name_of o < suc n
+pub name-within : (n : ℕ) (views : List View) (id : ℕ) (p : Person) (rest : List Person) (s : PlainHistory) (u : List Birth) → Ruled n views → get_elem? views id ≡ some (set_view s (p ∷ rest) u) → (o : Origin) → p.origin ≡ o → name_of o < suc n
 name-within n views id p rest s u r e (Root k) is = omega arith
 name-within n views id p rest s u r e (Born b) is =
     let a = births-less (past n) n views r in
@@ -61,7 +61,7 @@ name-within n views id p rest s u r e (Born b) is =
     omega arith
 
 -- Where a person stands, nobody opens the table
-pub no-opening : (n : ℕ) (views : List View) (id : ℕ) (p : Person) (rest : List Person) (s : Ledger) (u : List Birth) → Ruled n views → get_elem? views id ≡ some (set_view s (p ∷ rest) u) → (o : Origin) → p.origin ≡ o → weigh opened views ≡ 0
+pub no-opening : (n : ℕ) (views : List View) (id : ℕ) (p : Person) (rest : List Person) (s : PlainHistory) (u : List Birth) → Ruled n views → get_elem? views id ≡ some (set_view s (p ∷ rest) u) → (o : Origin) → p.origin ≡ o → weigh opened views ≡ 0
 no-opening n views id p rest s u r e (Root k) is =
     let roots : View → ℕ = λ v. weigh (λ (q : Person). by_root (λ k. 1) q.origin) v.persons in
     let a : weigh (known (λ k. 1)) views ≡ weigh opened views + weigh roots views = weigh-plus (known (λ k. 1)) opened roots (λ v. let c = weigh-count v.opening in omega arith) views in
@@ -92,7 +92,7 @@ few-acts n views r =
     omega arith
   where
     sets : (v : View) → Fits v → in_sets (λ a. 1) v ≤ 16777216 * numbers (λ k. 1) v
-    sets v f = weigh-most (λ (s : Ledger). weigh (λ (a : PlainAct). 1) s.acts) (λ (s : Ledger). 1) 16777216 v.sets (each-map FitsSet (λ (s : Ledger). weigh (λ (a : PlainAct). 1) s.acts ≤ 16777216 * 1) v.sets (λ s g. let c = weigh-count s.acts in let l = g.1 in omega arith) f.0)
+    sets v f = weigh-most (λ (s : PlainHistory). weigh (λ (a : PlainAct). 1) s.acts) (λ (s : PlainHistory). 1) 16777216 v.sets (each-map FitsSet (λ (s : PlainHistory). weigh (λ (a : PlainAct). 1) s.acts ≤ 16777216 * 1) v.sets (λ s g. let c = weigh-count s.acts in let l = g.1 in omega arith) f.0)
 
     by_origin : (o : Origin) → by_root (λ k. k) o ≤ 1024 → by_root (under (λ k. 1)) o ≤ 1024 * by_root (λ k. 1) o
     by_origin (Root k) le = let c = under-count k in omega arith
@@ -112,7 +112,7 @@ unborn-weighs : (h : Birth → ℕ) (e : Bool) (b : Birth) (u : List Birth) → 
 unborn-weighs h true b u = refl
 unborn-weighs h false b u = omega arith
 
-module _ (n : ℕ) (s : Ledger) (p : Person) (rest : List Person) (u : List Birth) (site : ℕ) (what : PlainWhat) where
+module _ (n : ℕ) (s : PlainHistory) (p : Person) (rest : List Person) (u : List Birth) (site : ℕ) (what : PlainWhat) where
   abbrev before : View
   before = set_view s (p ∷ rest) u
 
@@ -155,7 +155,7 @@ module _ (n : ℕ) (s : Ledger) (p : Person) (rest : List Person) (u : List Birt
       let old_person : Each (λ (a : PlainAct). a.ticket < suc n) p.acts = (persons-within n views id before r at).0 in
       let name : name_of p.origin < suc n = name-within n views id p rest s u r at p.origin refl in
       let closed : weigh opened views ≡ 0 = no-opening n views id p rest s u r at p.origin refl in
-      let now_set : FitsSet (ledger s.number (s.acts ++ drawn ∷ [])) = (rises-more 0 (suc n) s.acts drawn fits_set.0 (omega arith) old_set refl, let l = length-append s.acts (drawn ∷ []) in omega arith) in
+      let now_set : FitsSet (plain_history s.set (s.acts ++ drawn ∷ [])) = (rises-more 0 (suc n) s.acts drawn fits_set.0 (omega arith) old_set refl, let l = length-append s.acts (drawn ∷ []) in omega arith) in
       let now_person : FitsPerson (with_act p drawn) =
       (rises-more (name_of p.origin) (suc n) p.acts drawn fits_person.0 name old_person refl, each-append (λ (a : PlainAct). a.proc ≡ name_of p.origin) p.acts (drawn ∷ []) fits_person.1 (refl, tt), fits_person.2) in
       let now : Fits after = ((now_set, tt), (now_person, fits.1.1), tt, unborn-after (is_eval what) fits.3) in

@@ -4,9 +4,9 @@ use mathlib.Core.Option.{some}
 use lib.ListN.{get_elem?}
 use Rattle.cl_ticket.specs.Weights.{weigh, under, Each}
 use Rattle.cl_ticket.specs.Rule.{spent, both, in_sets, of_persons, evals, births, numbers, known, opened, name_of, depth_of, by_birth, by_root, if_eval, Fits, FitsSet, FitsPerson, FitsHistory, FitsHalt, FitsUnborn, of_ticket, halters, Ruled, Holds}
-use Rattle.cl_value.specs.Plain.{PlainAct}
+use Rattle.cl_value.specs.Plain.{PlainAct, PlainHistory}
 use Rattle.cl_value.specs.Acts.{is_eval}
-use Rattle.cl_ticket.specs.Persons.{Birth, Person, Mark, Ledger}
+use Rattle.cl_ticket.specs.Persons.{Birth, Person, Mark}
 use mathlib.Core.List.{IsPrefix}
 use Rattle.cl_ticket.specs.declared.view.View.{View}
 use Rattle.atomic_table.proofs.Lists.{set_else}
@@ -65,7 +65,7 @@ births-both : (h : Birth → ℕ) (v w : View) → births h (both v w) ≡ birth
 births-both h v w = let a = weigh-append (λ (p : Person). by_birth h p.origin) v.persons w.persons in let b = weigh-append h v.unborn w.unborn in omega arith
 
 numbers-both : (h : ℕ → ℕ) (v w : View) → numbers h (both v w) ≡ numbers h v + numbers h w
-numbers-both h v w = weigh-append (λ (s : Ledger). h s.number) v.sets w.sets
+numbers-both h v w = weigh-append (λ (s : PlainHistory). h s.set) v.sets w.sets
 
 known-both : (f : ℕ → ℕ) (v w : View) → known f (both v w) ≡ known f v + known f w
 known-both f v w = let a = weigh-append f v.opening w.opening in let b = weigh-append (λ (p : Person). by_root f p.origin) v.persons w.persons in omega arith
@@ -92,7 +92,7 @@ balances-both v w = record {
 }
 
 marked-both : (history : ℕ → List PlainAct) (v w : View) → FitsHistory history v → FitsHistory history w → FitsHistory history (both v w)
-marked-both history v w a b = (each-append (λ (s : Ledger). s.acts ≡ history s.number) v.sets w.sets a.0 b.0, each-append (λ (p : Person). Each (λ (m : Mark). IsPrefix m.acts (history m.set)) p.full) v.persons w.persons a.1 b.1)
+marked-both history v w a b = (each-append (λ (s : PlainHistory). s.acts ≡ history s.set) v.sets w.sets a.0 b.0, each-append (λ (p : Person). Each (λ (m : Mark). IsPrefix m.acts (history m.set)) p.full) v.persons w.persons a.1 b.1)
 
 halt-both : (m : ℕ) (v w : View) → FitsHalt m v → FitsHalt m w → FitsHalt m (both v w)
 halt-both m v w a b = each-append (λ (p : Person). (p.failed ≡ true → 0 < m) × Each (λ (q : ℕ). m ≡ suc q) p.saw) v.persons w.persons a b

@@ -10,4 +10,5 @@ pub mod Closes
 pub mod Counts
 pub mod Rising
 pub mod Points
+pub mod Told
 pub mod Rows

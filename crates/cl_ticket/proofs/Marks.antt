@@ -8,16 +8,20 @@ use lib.ListN.{get_elem?}
 use Rattle.cl_ticket.specs.Weights.{weigh, under, Each}
 use Rattle.cl_ticket.specs.Rule.{set_view, spent, by_birth, by_root, depth_of, if_eval, numbers, known, FitsPerson, FitsHistory, FitsHalt, name_of, process_view, Ruled, Holds}
 use Rattle.cl_ticket.specs.Steps.{with_mark, with_marks, set_in, drawn_view, left_leave, right_full}
-use Rattle.cl_ticket.specs.Histories.{chosen}
-use Rattle.cl_value.specs.Plain.{PlainAct}
+use Rattle.cl_value.specs.Plain.{PlainAct, PlainHistory}
 use Rattle.cl_value.specs.Acts.{is_eval}
-use Rattle.cl_ticket.specs.Persons.{Birth, Mark, Origin, Root, Born, Person, Ledger}
+use Rattle.cl_ticket.specs.Persons.{Birth, Mark, Origin, Root, Born, Person}
 use Rattle.cl_ticket.specs.declared.view.View.{View}
 use Rattle.cl_ticket.proofs.Sums.{weigh-set, weigh-less, weigh-none, each-at, each-set, each-map, each-both, set-twice}
 use Rattle.cl_ticket.proofs.Keeps.{Balances, cuts}
-use Rattle.cl_ticket.proofs.Points.{is, is-here, is-else}
+use Rattle.cl_ticket.specs.Points.{is}
+use Rattle.cl_ticket.proofs.Points.{is-here, is-else}
 
-under-past : (x n : ℕ) → n ≤ x → under (is x) n ≡ 0
+abbrev pub chosen : Bool → List PlainAct → List PlainAct → List PlainAct
+chosen true l m = l
+chosen false l m = m
+
+pub under-past : (x n : ℕ) → n ≤ x → under (is x) n ≡ 0
 under-past x zero le = refl
 under-past x (suc n) le = let e = is-else x n (λ same. omega arith) in omega (arith, under-past x n (omega arith))
 
@@ -35,18 +39,18 @@ known-less f g le v = let a = weigh-less f g le v.opening in let b = weigh-less 
     one (Born b) = omega arith
 
 -- no other view has a set of this number
-pub others-apart : (n : ℕ) (views : List View) (id : ℕ) (s : Ledger) (guest : List Person) (u : List Birth) → Ruled n views → get_elem? views id ≡ some (set_view s guest u)
-    → Each (λ (v : View). Each (λ (t : Ledger). t.number ≢ s.number) v.sets) (set views id spent)
+pub others-apart : (n : ℕ) (views : List View) (id : ℕ) (s : PlainHistory) (guest : List Person) (u : List Birth) → Ruled n views → get_elem? views id ≡ some (set_view s guest u)
+    → Each (λ (v : View). Each (λ (t : PlainHistory). t.set ≢ s.set) v.sets) (set views id spent)
 others-apart n views id s guest u r at =
-    let x = s.number in
+    let x = s.set in
     let a = r.numbered (is x) in
     let b = weigh-less (known (under (is x))) (known (λ k. 1)) (known-less (under (is x)) (λ k. 1) (under-once x)) views in
     let c = r.root in
     let d = weigh-set (numbers (is x)) views id (set_view s guest u) spent at in
     let e = is-here x x refl in
     let none : weigh (numbers (is x)) (set views id spent) ≡ 0 = omega arith in
-    each-map (λ (v : View). numbers (is x) v ≡ 0) (λ (v : View). Each (λ (t : Ledger). t.number ≢ x) v.sets) (set views id spent)
-    (λ v z. each-map (λ (t : Ledger). is x t.number ≡ 0) (λ (t : Ledger). t.number ≢ x) v.sets (λ t zero_there same. let one = is-here x t.number same in omega arith) (weigh-none (λ (t : Ledger). is x t.number) v.sets z))
+    each-map (λ (v : View). numbers (is x) v ≡ 0) (λ (v : View). Each (λ (t : PlainHistory). t.set ≢ x) v.sets) (set views id spent)
+    (λ v z. each-map (λ (t : PlainHistory). is x t.set ≡ 0) (λ (t : PlainHistory). t.set ≢ x) v.sets (λ t zero_there same. let one = is-here x t.set same in omega arith) (weigh-none (λ (t : PlainHistory). is x t.set) v.sets z))
     (weigh-none (numbers (is x)) (set views id spent) none)
 
 -- the acts of each number, with one more
@@ -67,27 +71,27 @@ marks-written : (history : ℕ → List PlainAct) (x : ℕ) (a : PlainAct) (l : 
 marks-written history x a l all = each-map (λ (p : Person). Each (λ (m : Mark). IsPrefix m.acts (history m.set)) p.full) (λ (p : Person). Each (λ (m : Mark). IsPrefix m.acts (written history x a m.set)) p.full) l
     (λ p one. each-map (λ (m : Mark). IsPrefix m.acts (history m.set)) (λ (m : Mark). IsPrefix m.acts (written history x a m.set)) p.full (λ m q. longer (eqb m.set x) m.acts (history m.set) a q) one) all
 
-other-written : (history : ℕ → List PlainAct) (x : ℕ) (a : PlainAct) (v : View) → FitsHistory history v → Each (λ (t : Ledger). t.number ≢ x) v.sets → FitsHistory (written history x a) v
+other-written : (history : ℕ → List PlainAct) (x : ℕ) (a : PlainAct) (v : View) → FitsHistory history v → Each (λ (t : PlainHistory). t.set ≢ x) v.sets → FitsHistory (written history x a) v
 other-written history x a v f apart =
-    (each-map (λ (t : Ledger). (t.acts ≡ history t.number) × (t.number ≢ x)) (λ (t : Ledger). t.acts ≡ written history x a t.number) v.sets (λ t q. q.0 ∙ sym (written-else history x t.number a q.1)) (each-both (λ (t : Ledger). t.acts ≡ history t.number) (λ (t : Ledger). t.number ≢ x) v.sets f.0 apart), marks-written history x a v.persons f.1)
+    (each-map (λ (t : PlainHistory). (t.acts ≡ history t.set) × (t.set ≢ x)) (λ (t : PlainHistory). t.acts ≡ written history x a t.set) v.sets (λ t q. q.0 ∙ sym (written-else history x t.set a q.1)) (each-both (λ (t : PlainHistory). t.acts ≡ history t.set) (λ (t : PlainHistory). t.set ≢ x) v.sets f.0 apart), marks-written history x a v.persons f.1)
 
 -- a drawn act keeps what is known of full sets
-pub draws-marked : (n : ℕ) (views : List View) (id : ℕ) (s : Ledger) (p : Person) (rest : List Person) (u : List Birth) (a : PlainAct) (history : ℕ → List PlainAct) → Ruled n views → get_elem? views id ≡ some (set_view s (p ∷ rest) u) → Each (FitsHistory history) views
-    → Each (FitsHistory (written history s.number a)) (set views id (drawn_view a s p rest u))
+pub draws-marked : (n : ℕ) (views : List View) (id : ℕ) (s : PlainHistory) (p : Person) (rest : List Person) (u : List Birth) (a : PlainAct) (history : ℕ → List PlainAct) → Ruled n views → get_elem? views id ≡ some (set_view s (p ∷ rest) u) → Each (FitsHistory history) views
+    → Each (FitsHistory (written history s.set a)) (set views id (drawn_view a s p rest u))
 draws-marked n views id s p rest u a history r at all =
-    let x = s.number in
+    let x = s.set in
     let now : List PlainAct = s.acts ++ a ∷ [] in
     let mine : FitsHistory history (set_view s (p ∷ rest) u) = each-at (FitsHistory history) views id (set_view s (p ∷ rest) u) at all in
     let others : Each (FitsHistory history) (set views id spent) = each-set (FitsHistory history) views id spent all (tt, tt) in
     let apart = others-apart n views id s (p ∷ rest) u r at in
-    let others' : Each (FitsHistory (written history x a)) (set views id spent) = each-map (λ (v : View). FitsHistory history v × Each (λ (t : Ledger). t.number ≢ x) v.sets) (FitsHistory (written history x a)) (set views id spent) (λ v q. other-written history x a v q.0 q.1) (each-both (FitsHistory history) (λ (v : View). Each (λ (t : Ledger). t.number ≢ x) v.sets) (set views id spent) others apart) in
+    let others' : Each (FitsHistory (written history x a)) (set views id spent) = each-map (λ (v : View). FitsHistory history v × Each (λ (t : PlainHistory). t.set ≢ x) v.sets) (FitsHistory (written history x a)) (set views id spent) (λ v q. other-written history x a v q.0 q.1) (each-both (FitsHistory history) (λ (v : View). Each (λ (t : PlainHistory). t.set ≢ x) v.sets) (set views id spent) others apart) in
     let here : now ≡ written history x a x = ap (λ (l : List PlainAct). l ++ a ∷ []) mine.0.0 ∙ sym (written-here history x a) in
     let w = drawn_view a s p rest u in
     let mine' : FitsHistory (written history x a) w = ((here, tt), marks-written history x a (p ∷ rest) mine.1) in
     subst (Each (FitsHistory (written history x a))) (set-twice views id spent w) (each-set (FitsHistory (written history x a)) (set views id spent) id w others' mine')
 
 -- ---- who leaves a full set
-marks-weigh : (f : Person → ℕ) (s : Ledger) → ((p : Person) → f (with_mark p s) ≡ f p) → (l : List Person) → weigh f (with_marks l s) ≡ weigh f l
+marks-weigh : (f : Person → ℕ) (s : PlainHistory) → ((p : Person) → f (with_mark p s) ≡ f p) → (l : List Person) → weigh f (with_marks l s) ≡ weigh f l
 marks-weigh f s e [] = refl
 marks-weigh f s e (p ∷ more) = let q = e p in omega arith
 
@@ -104,19 +108,19 @@ full-balances v = let s = set_in v.sets in record {
   quiet = omega arith;
 }
 
-full-fits : (s : Ledger) (l : List Person) → Each FitsPerson l → Each FitsPerson (with_marks l s)
+full-fits : (s : PlainHistory) (l : List Person) → Each FitsPerson l → Each FitsPerson (with_marks l s)
 full-fits s [] all = tt
 full-fits s (p ∷ more) all = all
 
-begins-so : (history : ℕ → List PlainAct) (l : List Ledger) → Each (λ (s : Ledger). s.acts ≡ history s.number) l → IsPrefix (set_in l).acts (history (set_in l).number)
+begins-so : (history : ℕ → List PlainAct) (l : List PlainHistory) → Each (λ (s : PlainHistory). s.acts ≡ history s.set) l → IsPrefix (set_in l).acts (history (set_in l).set)
 begins-so history [] all = (history 0, refl)
 begins-so history (s ∷ more) all = ([], append-nil s.acts ∙ all.0)
 
-full-marks : (history : ℕ → List PlainAct) (s : Ledger) (l : List Person) → IsPrefix s.acts (history s.number) → Each (λ (p : Person). Each (λ (m : Mark). IsPrefix m.acts (history m.set)) p.full) l → Each (λ (p : Person). Each (λ (m : Mark). IsPrefix m.acts (history m.set)) p.full) (with_marks l s)
+full-marks : (history : ℕ → List PlainAct) (s : PlainHistory) (l : List Person) → IsPrefix s.acts (history s.set) → Each (λ (p : Person). Each (λ (m : Mark). IsPrefix m.acts (history m.set)) p.full) l → Each (λ (p : Person). Each (λ (m : Mark). IsPrefix m.acts (history m.set)) p.full) (with_marks l s)
 full-marks history s [] b all = tt
 full-marks history s (p ∷ more) b all = ((b, all.0), all.1)
 
-full-halt : (m : ℕ) (s : Ledger) (l : List Person) → FitsHalt m (process_view l) → FitsHalt m (process_view (with_marks l s))
+full-halt : (m : ℕ) (s : PlainHistory) (l : List Person) → FitsHalt m (process_view l) → FitsHalt m (process_view (with_marks l s))
 full-halt m s [] all = tt
 full-halt m s (p ∷ more) all = all
 

@@ -4,8 +4,8 @@ use Rattle.std.specs.Prelude.{slice_index, slice_set}
 use Rattle.atomic_table.specs.Table.{State, Me, keeps, Allows, Splits, Joins}
 use Rattle.cl_ticket.specs.Rule.{opening_view, set_view, spent, both, opened, FitsHalt, halters, Holds}
 use Rattle.cl_ticket.specs.Steps.{set_in, person_in, others_in, act_of, drawn_view, Drawn, left_opening, right_opening, left_last, left_leave, right_leave, right_full, left_born, right_born}
-use Rattle.cl_value.specs.Plain.{PlainWhat}
-use Rattle.cl_ticket.specs.Persons.{Birth, Person, Ledger}
+use Rattle.cl_value.specs.Plain.{PlainWhat, PlainHistory}
+use Rattle.cl_ticket.specs.Persons.{Birth, Person}
 use Rattle.cl_ticket.specs.declared.view.View.{View}
 use Rattle.cl_ticket.proofs.Keeps.{joins}
 use Rattle.cl_ticket.proofs.Cuts.{opens, opens-last, leaves, bears}
@@ -40,7 +40,7 @@ Tells site what v found after = Drawn site what v found after.0 × (after.1 ≡ 
 next-word : (n : ℕ) → n ≤ 17179869184 → (suc n + 1) % 2 ^ 64 ≡ suc (suc n)
 next-word n le = omega arith
 
-draws : (slots id site : ℕ) (what : PlainWhat) (s : Ledger) (p : Person) (rest : List Person) (u : List Birth) → length s.acts < 16777216
+draws : (slots id site : ℕ) (what : PlainWhat) (s : PlainHistory) (p : Person) (rest : List Person) (u : List Birth) → length s.acts < 16777216
     → Allows Kept slots id (set_view s (p ∷ rest) u, []) 0 (λ n. (n + 1) % 2 ^ 64) (Tells site what (set_view s (p ∷ rest) u))
 draws slots id site what s p rest u room st h homes at fits =
     let n = h.n in
@@ -57,7 +57,7 @@ draws slots id site what s p rest u room st h homes at fits =
         n = suc n;
         at = words;
         ruled = draws-ruled n s p rest u site what st.views id room h.ruled at;
-        history = written h.history s.number (act_of site what p (suc n));
+        history = written h.history s.set (act_of site what p (suc n));
         marked = draws-marked n st.views id s p rest u (act_of site what p (suc n)) h.history h.ruled at h.marked;
         m = h.m;
         halted = each-set (FitsHalt h.m) st.views id w h.halted (each-at (FitsHalt h.m) st.views id v at h.halted);
@@ -68,7 +68,7 @@ draws slots id site what s p rest u room st h homes at fits =
           ((refl, (sets-within n st.views id v h.ruled at).0, (persons-within n st.views id v h.ruled at).0, name-within n st.views id p rest s u h.ruled at p.origin refl, most), refl),
     )
 
-pub draws_as : (slots id site : ℕ) (what : PlainWhat) (me : Me (Unit {0}) View) (s : Ledger) (p : Person) (rest : List Person) (u : List Birth) → me ≡ (set_view s (p ∷ rest) u, []) → length s.acts < 16777216
+pub draws_as : (slots id site : ℕ) (what : PlainWhat) (me : Me (Unit {0}) View) (s : PlainHistory) (p : Person) (rest : List Person) (u : List Birth) → me ≡ (set_view s (p ∷ rest) u, []) → length s.acts < 16777216
     → Allows Kept slots id me 0 (λ n. (n + 1) % 2 ^ 64) (Tells site what me.0)
 draws_as slots id site what me s p rest u is room = subst (λ (m : Me (Unit {0}) View). Allows Kept slots id m 0 (λ n. (n + 1) % 2 ^ 64) (Tells site what m.0)) (sym is) (draws slots id site what s p rest u room)
 

@@ -1,24 +1,21 @@
 -- What the rule says of one view that has everything, in plain words.
 use Rattle.std.proofs.Common.{◌≡◌, ◌≢◌, ℕ, eqb, eq-eqb, ne_eqb, zero, suc, ◌+◌, ◌<◌, ◌≤◌, List, [], ◌∷◌, Bool, true, false, true≢false, refl, sym, ap, arith, ◌∙◌}
-use Rattle.std.specs.Prelude.{nat_lt}
+use Rattle.std.specs.Prelude.{nat_lt, if◌then◌else◌}
 use mathlib.Core.Option.{some, some-injective, some-ne-none}
 use mathlib.Core.Logic.{dite}
 use native.Mathlib.Decide.{ℕ_discrete}
 use lib.ListN.{get_elem?}
 use Rattle.cl_ticket.specs.Weights.{weigh, under, upto, Each}
 use Rattle.cl_ticket.specs.Rule.{name_of, by_birth, by_root, if_eval, in_sets, of_persons, births, known, Rises, Fits, FitsSet, FitsPerson, Ruled}
-use Rattle.cl_ticket.specs.Histories.{chosen, placed, in_order, acts_in_sets, acts_of}
-use Rattle.cl_value.specs.Plain.{PlainAct}
-use Rattle.cl_value.specs.Acts.{is_eval}
-use Rattle.cl_ticket.specs.Persons.{Birth, Origin, Root, Born, Person, Ledger}
+use Rattle.cl_value.specs.Tickets.{placed, in_order, acts_in}
+use Rattle.cl_ticket.specs.Points.{is}
+use Rattle.cl_value.specs.Plain.{PlainAct, PlainHistory}
+use Rattle.cl_value.specs.Acts.{is_eval, acts_of}
+use Rattle.cl_ticket.specs.Persons.{Birth, Origin, Root, Born, Person}
 use Rattle.cl_ticket.specs.declared.view.View.{View}
 use Rattle.cl_ticket.proofs.Sums.{weigh-append, weigh-at, weigh-less, weigh-plus, each-at, each-map, each-append}
 use Rattle.cl_ticket.proofs.Draws.{births-less}
 use Rattle.cl_ticket.proofs.Rising.{rising-same}
-
--- 1 where the numbers are equal
-abbrev pub is : ℕ → ℕ → ℕ
-is x k = if_eval (eqb k x) 1
 
 pub is-here : (x k : ℕ) → k ≡ x → is x k ≡ 1
 is-here x k e = ap (λ b. if_eval b 1) (eq-eqb k x e)
@@ -30,7 +27,7 @@ upto-past : (x n : ℕ) → n < x → upto (is x) n ≡ 0
 upto-past x zero lt = refl
 upto-past x (suc n) lt = let e = is-else x (suc n) (λ same. omega arith) in omega (arith, upto-past x n (omega arith))
 
-upto-once : (x n : ℕ) → upto (is x) n ≤ 1
+pub upto-once : (x n : ℕ) → upto (is x) n ≤ 1
 upto-once x zero = omega arith
 upto-once x (suc n) = dite (ℕ_discrete (suc n) x)
     (λ (e : suc n ≡ x). let a = is-here x (suc n) e in let b = upto-past x n (omega arith) in omega arith)
@@ -82,15 +79,11 @@ names-differ n x v r =
         all-zero (p ∷ more) = omega (arith, all-zero more)
 
 -- ---- lists in order
-chosen-weighs : (h : PlainAct → ℕ) (b : Bool) (l m : List PlainAct) → weigh h (chosen b l m) ≡ chosen b (weigh h l) (weigh h m)
-chosen-weighs h true l m = refl
-chosen-weighs h false l m = refl
-
 weigh-placed : (h : PlainAct → ℕ) (a : PlainAct) (l : List PlainAct) → weigh h (placed a l) ≡ h a + weigh h l
 weigh-placed h a [] = refl
 weigh-placed h a (b ∷ more) = by-order (nat_lt a.ticket b.ticket) (weigh-placed h a more)
   where
-    by-order : (c : Bool) → weigh h (placed a more) ≡ h a + weigh h more → weigh h (chosen c (a ∷ b ∷ more) (b ∷ placed a more)) ≡ h a + weigh h (b ∷ more)
+    by-order : (c : Bool) → weigh h (placed a more) ≡ h a + weigh h more → weigh h (if c then (a ∷ b ∷ more) else (b ∷ placed a more)) ≡ h a + weigh h (b ∷ more)
     by-order true rest = refl
     by-order false rest = omega arith
 
@@ -102,13 +95,13 @@ weigh-acts_of : (h : PlainAct → ℕ) (name : ℕ) (l : List PlainAct) → weig
 weigh-acts_of h name [] = refl
 weigh-acts_of h name (a ∷ more) = by-name (eqb a.proc name) (weigh-acts_of h name more)
   where
-    by-name : (c : Bool) → weigh h (acts_of name more) ≡ weigh (λ (x : PlainAct). if_eval (eqb x.proc name) (h x)) more → weigh h (chosen c (a ∷ acts_of name more) (acts_of name more)) ≡ if_eval c (h a) + weigh (λ (x : PlainAct). if_eval (eqb x.proc name) (h x)) more
+    by-name : (c : Bool) → weigh h (acts_of name more) ≡ weigh (λ (x : PlainAct). if_eval (eqb x.proc name) (h x)) more → weigh h (if c then (a ∷ acts_of name more) else (acts_of name more)) ≡ if_eval c (h a) + weigh (λ (x : PlainAct). if_eval (eqb x.proc name) (h x)) more
     by-name true rest = omega arith
     by-name false rest = omega arith
 
-pub weigh-in-sets : (h : PlainAct → ℕ) (l : List Ledger) → weigh h (acts_in_sets l) ≡ weigh (λ (s : Ledger). weigh h s.acts) l
+pub weigh-in-sets : (h : PlainAct → ℕ) (l : List PlainHistory) → weigh h (acts_in l) ≡ weigh (λ (s : PlainHistory). weigh h s.acts) l
 weigh-in-sets h [] = refl
-weigh-in-sets h (s ∷ more) = omega (arith, weigh-append h s.acts (acts_in_sets more), weigh-in-sets h more)
+weigh-in-sets h (s ∷ more) = omega (arith, weigh-append h s.acts (acts_in more), weigh-in-sets h more)
 
 rises-less : (m k : ℕ) (l : List PlainAct) → m ≤ k → Rises k l → Rises m l
 rises-less m k [] le r = tt
@@ -118,7 +111,7 @@ rises-acts_of : (m name : ℕ) (l : List PlainAct) → Rises m l → Rises m (ac
 rises-acts_of m name [] r = tt
 rises-acts_of m name (a ∷ more) r = by-name (eqb a.proc name) (rises-acts_of a.ticket name more r.1)
   where
-    by-name : (c : Bool) → Rises a.ticket (acts_of name more) → Rises m (chosen c (a ∷ acts_of name more) (acts_of name more))
+    by-name : (c : Bool) → Rises a.ticket (acts_of name more) → Rises m (if c then (a ∷ acts_of name more) else (acts_of name more))
     by-name true rest = (r.0, rest)
     by-name false rest = let lt = r.0 in rises-less m a.ticket (acts_of name more) (omega arith) rest
 
@@ -135,7 +128,7 @@ rises-placed m a (b ∷ more) r lt none = by-order (nat_lt a.ticket b.ticket) re
     behind : nat_lt a.ticket b.ticket ≡ false → b.ticket < a.ticket
     behind e = let le : b.ticket ≤ a.ticket = grind arith in omega (arith, apart)
 
-    by-order : (c : Bool) → nat_lt a.ticket b.ticket ≡ c → (b.ticket < a.ticket → Rises b.ticket (placed a more)) → Rises m (chosen c (a ∷ b ∷ more) (b ∷ placed a more))
+    by-order : (c : Bool) → nat_lt a.ticket b.ticket ≡ c → (b.ticket < a.ticket → Rises b.ticket (placed a more)) → Rises m (if c then (a ∷ b ∷ more) else (b ∷ placed a more))
     by-order true e rest = (lt, (before e, r.1))
     by-order false e rest = (r.0, rest (behind e))
 
@@ -194,7 +187,7 @@ only-one b f (x ∷ xs) (suc i) p at flag le =
     let fx = flag-none (b x) (f x) none in
     omega (arith, only-one b f xs i p at flag (omega arith))
 
-each-weighs : {A : Type 0} (f g : A → ℕ) (l : List A) → Each (λ x. f x ≡ g x) l → weigh f l ≡ weigh g l
+pub each-weighs : {A : Type 0} (f g : A → ℕ) (l : List A) → Each (λ x. f x ≡ g x) l → weigh f l ≡ weigh g l
 each-weighs f g [] all = refl
 each-weighs f g (x ∷ xs) all = let e = all.0 in omega (arith, each-weighs f g xs all.1)
 
@@ -202,15 +195,15 @@ rises-above : (m k : ℕ) (l : List PlainAct) → m ≤ k → Rises k l → Each
 rises-above m k [] le r = tt
 rises-above m k (a ∷ more) le r = let lt = r.0 in (omega arith, rises-above m a.ticket more (omega arith) r.1)
 
-above-in-sets : (l : List Ledger) → Each FitsSet l → Each (λ (a : PlainAct). 0 < a.ticket) (acts_in_sets l)
+pub above-in-sets : (l : List PlainHistory) → Each FitsSet l → Each (λ (a : PlainAct). 0 < a.ticket) (acts_in l)
 above-in-sets [] all = tt
-above-in-sets (s ∷ more) all = each-append (λ (a : PlainAct). 0 < a.ticket) s.acts (acts_in_sets more) (rises-above 0 0 s.acts (omega arith) all.0.0) (above-in-sets more all.1)
+above-in-sets (s ∷ more) all = each-append (λ (a : PlainAct). 0 < a.ticket) s.acts (acts_in more) (rises-above 0 0 s.acts (omega arith) all.0.0) (above-in-sets more all.1)
 
 -- A person's acts are those of its name among all acts in order of tickets
-pub person-acts : (n i : ℕ) (v : View) (p : Person) → Ruled n (v ∷ []) → get_elem? v.persons i ≡ some p → p.acts ≡ acts_of (name_of p.origin) (in_order (acts_in_sets v.sets))
+pub person-acts : (n i : ℕ) (v : View) (p : Person) → Ruled n (v ∷ []) → get_elem? v.persons i ≡ some p → p.acts ≡ acts_of (name_of p.origin) (in_order (acts_in v.sets))
 person-acts n i v p r at =
     let x = name_of p.origin in
-    let all = acts_in_sets v.sets in
+    let all = acts_in v.sets in
     let fits : Fits v = r.fits.0 in
     let person : FitsPerson p = each-at FitsPerson v.persons i p at fits.1 in
     let sorted : Rises 0 (in_order all) = rises-in_order all (λ k. let t = r.tickets (is k) in let o = upto-once k n in let w = weigh-in-sets (λ (a : PlainAct). is k a.ticket) v.sets in omega arith) (above-in-sets v.sets fits.0) in
@@ -235,5 +228,5 @@ names-made n x v r none =
     omega arith
 
 -- Set numbers differ, and are those below the number of sets
-pub numbers-differ : (n x : ℕ) (v : View) → Ruled n (v ∷ []) → weigh (λ (s : Ledger). is x s.number) v.sets ≡ known (under (is x)) v
+pub numbers-differ : (n x : ℕ) (v : View) → Ruled n (v ∷ []) → weigh (λ (s : PlainHistory). is x s.set) v.sets ≡ known (under (is x)) v
 numbers-differ n x v r = let a = r.numbered (is x) in omega arith

@@ -8,8 +8,8 @@ use Rattle.cl_value.specs.declared.value.FieldType.{FieldType}
 use Rattle.cl_value.specs.declared.value.FieldType.TheVariants as types
 use Rattle.cl_value.specs.declared.template.Slot.{Slot}
 use Rattle.cl_value.specs.declared.template.Slot.TheVariants as slots
-use Rattle.cl_value.specs.Plain.{PlainPart, Ready, Call, PlainWhat, DidOut, DidIn, DidRd, InpHit, InpMiss, RdpHit, RdpMiss, DidEval, DidLand, PlainAct}
-use Rattle.cl_ticket.specs.Persons.{Birth, Origin, Root, Born, Mark, Person, Ledger}
+use Rattle.cl_value.specs.Plain.{PlainPart, Ready, Call, PlainWhat, DidOut, DidIn, DidRd, InpHit, InpMiss, RdpHit, RdpMiss, DidEval, DidLand, PlainAct, PlainHistory}
+use Rattle.cl_ticket.specs.Persons.{Birth, Origin, Root, Born, Mark, Person}
 
 abbrev pub value_parts : Value → (ℤ ⊎ ℤ) ⊎ (ℕ ⊎ ℕ)
 value_parts (values.Int n) = inl (inl n)
@@ -155,8 +155,8 @@ origin_back (Born b) = refl
 abbrev pub origin_coded : Coded Origin
 origin_coded = code_by (ℕ ⊎ Birth) (coded⊎ coded_ℕ birth_coded) origin_parts origin_of origin_back
 
-abbrev pub ledger_coded : Coded Ledger
-ledger_coded = code_by (ℕ × List PlainAct) (coded× coded_ℕ (coded_list act_coded)) (λ (s : Ledger). (s.number, s.acts)) (λ p. record { number = p.0; acts = p.1 }) (λ _. refl)
+abbrev pub history_coded : Coded PlainHistory
+history_coded = code_by (ℕ × List PlainAct) (coded× coded_ℕ (coded_list act_coded)) (λ (s : PlainHistory). (s.set, s.acts)) (λ p. record { set = p.0; acts = p.1 }) (λ _. refl)
 
 abbrev pub mark_coded : Coded Mark
 mark_coded = code_by (ℕ × List PlainAct) (coded× coded_ℕ (coded_list act_coded)) (λ (m : Mark). (m.set, m.acts)) (λ p. record { set = p.0; acts = p.1 }) (λ _. refl)
@@ -170,8 +170,8 @@ person_coded =
 abbrev pub numbers_coded : Coded (List ℕ)
 numbers_coded = coded_list coded_ℕ
 
-abbrev pub ledgers_coded : Coded (List Ledger)
-ledgers_coded = coded_list ledger_coded
+abbrev pub histories_coded : Coded (List PlainHistory)
+histories_coded = coded_list history_coded
 
 abbrev pub persons_coded : Coded (List Person)
 persons_coded = coded_list person_coded

@@ -3,5 +3,7 @@ pub mod Persons
 pub mod Codes
 pub mod Rule
 pub mod Steps
-pub mod Histories
 pub mod Starts
+pub mod Tokens
+pub mod Seats
+pub mod Points

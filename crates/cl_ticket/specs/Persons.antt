@@ -24,8 +24,3 @@ pub record Person : Type 0 where
   pub full : List Mark
   pub failed : Bool
   pub saw : List ℕ
-
--- a set with its acts
-pub record Ledger : Type 0 where
-  pub number : ℕ
-  pub acts : List PlainAct

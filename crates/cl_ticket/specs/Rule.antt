@@ -1,18 +1,18 @@
 -- The ticket rule, over the words and all views.
 use Rattle.std.specs.Prelude.{◌≡◌, ℕ, suc, ◌+◌, ◌<◌, ◌≤◌, List, [], ◌∷◌, ◌++◌, length, Bool, true, false}
 use Rattle.cl_ticket.specs.Weights.{weigh, upto, under, Each}
-use Rattle.cl_value.specs.Plain.{PlainAct}
+use Rattle.cl_value.specs.Plain.{PlainAct, PlainHistory}
 use Rattle.cl_value.specs.Acts.{is_eval}
 use Rattle.std.proofs.Common.{eqb}
 use mathlib.Core.List.{IsPrefix}
-use Rattle.cl_ticket.specs.Persons.{Birth, Mark, Origin, Root, Born, Person, Ledger}
+use Rattle.cl_ticket.specs.Persons.{Birth, Mark, Origin, Root, Born, Person}
 use Rattle.cl_ticket.specs.declared.view.View.{View}
 
 -- the four kinds of view
 abbrev pub opening_view : ℕ → View
 opening_view k = record { opening = k ∷ []; sets = []; persons = []; unborn = [] }
 
-abbrev pub set_view : Ledger → List Person → List Birth → View
+abbrev pub set_view : PlainHistory → List Person → List Birth → View
 set_view set guest unborn = record { opening = []; sets = set ∷ []; persons = guest; unborn = unborn }
 
 -- the first person, and those whom it has gathered
@@ -50,7 +50,7 @@ if_eval false n = 0
 
 -- What a view weighs. The acts in sets:
 abbrev pub in_sets : (PlainAct → ℕ) → View → ℕ
-in_sets h v = weigh (λ (s : Ledger). weigh h s.acts) v.sets
+in_sets h v = weigh (λ (s : PlainHistory). weigh h s.acts) v.sets
 
 -- the acts of persons:
 abbrev pub of_persons : (PlainAct → ℕ) → View → ℕ
@@ -66,7 +66,7 @@ births h v = weigh (λ (p : Person). by_birth h p.origin) v.persons + weigh h v.
 
 -- the numbers of sets:
 abbrev pub numbers : (ℕ → ℕ) → View → ℕ
-numbers h v = weigh (λ (s : Ledger). h s.number) v.sets
+numbers h v = weigh (λ (s : PlainHistory). h s.set) v.sets
 
 -- the numbers below the number of sets, where it is known
 abbrev pub known : (ℕ → ℕ) → View → ℕ
@@ -81,7 +81,7 @@ Rises n [] = Unit {0}
 Rises n (a ∷ more) = (n < a.ticket) × Rises a.ticket more
 
 -- at most 2^24 acts, by rising ticket
-abbrev pub FitsSet : Ledger → Type 0
+abbrev pub FitsSet : PlainHistory → Type 0
 FitsSet s = Rises 0 s.acts × (length s.acts ≤ 16777216)
 
 -- its own acts, by rising ticket, all above its name
@@ -117,7 +117,7 @@ pub record Ruled (n : ℕ) (views : List View) : Type 0 where
 
 -- Each set has the acts that its number stands for, and a person that met a full set knows a beginning of them
 abbrev pub FitsHistory : (ℕ → List PlainAct) → View → Type 0
-FitsHistory history v = Each (λ (s : Ledger). s.acts ≡ history s.number) v.sets × Each (λ (p : Person). Each (λ (m : Mark). IsPrefix m.acts (history m.set)) p.full) v.persons
+FitsHistory history v = Each (λ (s : PlainHistory). s.acts ≡ history s.set) v.sets × Each (λ (p : Person). Each (λ (m : Mark). IsPrefix m.acts (history m.set)) p.full) v.persons
 
 -- Where a person failed, a name stands in word 1, and what a person saw there is that name
 abbrev pub FitsHalt : ℕ → View → Type 0

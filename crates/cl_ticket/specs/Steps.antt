@@ -1,12 +1,11 @@
 -- What each kind of step makes of a view.
-use Rattle.std.specs.Prelude.{Option, Some, None, ◌≡◌, ℕ, zero, suc, ◌-◌, ◌<◌, ◌≤◌, List, [], ◌∷◌, ◌++◌, drop, slice_index, Bool, true, false}
+use Rattle.std.specs.Prelude.{Option, Some, None, ◌≡◌, ℕ, zero, suc, ◌-◌, ◌<◌, ◌≤◌, List, [], ◌∷◌, ◌++◌, map, drop, slice_index, Bool, true, false}
 use Rattle.atomic_table.specs.Seated.{TableId}
-use Rattle.atomic_table.specs.Table.{Me}
-use Rattle.cl_ticket.specs.Weights.{Each}
-use Rattle.cl_ticket.specs.Rule.{opening_view, set_view, process_view, name_of, depth_of}
-use Rattle.cl_value.specs.Plain.{PlainWhat, DidOut, PlainAct}
+use Rattle.cl_ticket.specs.Weights.{Each, weigh}
+use Rattle.cl_ticket.specs.Rule.{opening_view, set_view, process_view, name_of, depth_of, if_eval}
+use Rattle.cl_value.specs.Plain.{PlainWhat, DidOut, PlainAct, PlainHistory}
 use Rattle.cl_value.specs.Acts.{is_eval}
-use Rattle.cl_ticket.specs.Persons.{Birth, Origin, Root, Born, Person, Ledger}
+use Rattle.cl_ticket.specs.Persons.{Birth, Origin, Root, Born, Person}
 use Rattle.cl_ticket.specs.declared.view.View.{View}
 
 abbrev pub act : ℕ → ℕ → ℕ → PlainWhat → PlainAct
@@ -20,15 +19,15 @@ abbrev pub with_act : Person → PlainAct → Person
 with_act p a = record { origin = p.origin; acts = p.acts ++ a ∷ []; full = p.full; failed = p.failed; saw = p.saw }
 
 -- the person that met this full set
-abbrev pub with_mark : Person → Ledger → Person
-with_mark p s = record { origin = p.origin; acts = p.acts; full = record { set = s.number; acts = s.acts } ∷ p.full; failed = p.failed; saw = p.saw }
+abbrev pub with_mark : Person → PlainHistory → Person
+with_mark p s = record { origin = p.origin; acts = p.acts; full = record { set = s.set; acts = s.acts } ∷ p.full; failed = p.failed; saw = p.saw }
 
-abbrev pub ledger : ℕ → List PlainAct → Ledger
-ledger number acts = record { number = number; acts = acts }
+abbrev pub plain_history : ℕ → List PlainAct → PlainHistory
+plain_history number acts = record { set = number; acts = acts }
 
 -- the first set, and the first person, of which a view has one
-abbrev pub set_in : List Ledger → Ledger
-set_in [] = ledger 0 []
+abbrev pub set_in : List PlainHistory → PlainHistory
+set_in [] = plain_history 0 []
 set_in (s ∷ more) = s
 
 abbrev pub person_in : List Person → Person
@@ -47,15 +46,16 @@ IsSet v = v ≡ set_view (set_in v.sets) v.persons v.unborn
 abbrev pub IsProcess : View → Type 0
 IsProcess v = v ≡ process_view (person_in v.persons ∷ others_in v.persons)
 
-abbrev pub HasGuest : View → Type 0
-HasGuest v = v.persons ≡ person_in v.persons ∷ others_in v.persons
+-- somebody is listed
+abbrev pub has_one : List Person → Type 0
+has_one persons = persons ≡ person_in persons ∷ others_in persons
 
 -- the set is numbered as many as were opened
 abbrev pub left_opening : View → View
 left_opening v = opening_view (suc (slice_index v.opening 0))
 
 abbrev pub right_opening : View → View
-right_opening v = set_view (ledger (slice_index v.opening 0) []) [] []
+right_opening v = set_view (plain_history (slice_index v.opening 0) []) [] []
 
 -- the last: then person 0 stands
 abbrev pub left_last : View → View
@@ -69,16 +69,12 @@ abbrev pub right_leave : View → View
 right_leave v = process_view v.persons
 
 -- who leaves a full set
-abbrev pub with_marks : List Person → Ledger → List Person
+abbrev pub with_marks : List Person → PlainHistory → List Person
 with_marks [] s = []
 with_marks (p ∷ more) s = with_mark p s ∷ more
 
 abbrev pub right_full : View → View
 right_full v = process_view (with_marks v.persons (set_in v.sets))
-
-abbrev pub leavers : Bool → List Person → Ledger → List Person
-leavers true persons s = with_marks persons s
-leavers false persons s = persons
 
 -- who is born
 abbrev pub first_born : List Birth → List Person
@@ -96,9 +92,9 @@ abbrev pub unborn_after : Bool → Birth → List Birth → List Birth
 unborn_after true b u = b ∷ u
 unborn_after false b u = u
 
-abbrev pub drawn_view : PlainAct → Ledger → Person → List Person → List Birth → View
+abbrev pub drawn_view : PlainAct → PlainHistory → Person → List Person → List Birth → View
 drawn_view a s p rest u =
-    set_view (ledger s.number (s.acts ++ a ∷ [])) (with_act p a ∷ rest)
+    set_view (plain_history s.set (s.acts ++ a ∷ [])) (with_act p a ∷ rest)
     (unborn_after (is_eval a.what) (record { act = a; depth = suc (depth_of p.origin) }) u)
 
 -- the act of a person, with its ticket
@@ -118,14 +114,16 @@ abbrev pub birth_in : List Birth → Birth
 birth_in [] = record { act = act 0 0 0 (DidOut []); depth = 0 }
 birth_in (b ∷ more) = b
 
--- the views of n new sets
-abbrev pub fresh_views : ℕ → List View
-fresh_views zero = []
-fresh_views (suc n) = fresh_views n ++ set_view (ledger n []) [] [] ∷ []
-
 -- what process 0 has at the end
-abbrev pub end_view : List Person → List Ledger → View
+abbrev pub end_view : List Person → List PlainHistory → View
 end_view persons sets = record { opening = []; sets = sets; persons = persons; unborn = [] }
+
+-- how many evals these histories have
+abbrev pub evals_in : List PlainHistory → ℕ
+evals_in histories = weigh (λ (s : PlainHistory). weigh (λ (a : PlainAct). if_eval (is_eval a.what) 1) s.acts) histories
+
+abbrev pub tickets_of : List PlainAct → List ℕ
+tickets_of acts = map (λ (a : PlainAct). a.ticket) acts
 
 -- the name of no table
 abbrev pub no_table : TableId
@@ -139,9 +137,6 @@ sets_known (Born b) n = n
 abbrev pub root_sets : List Person → ℕ → ℕ
 root_sets [] n = n
 root_sets (p ∷ more) n = sets_known p.origin n
-
-abbrev pub IsBlank : Me (Unit {0}) View → Type 0
-IsBlank me = me ≡ (opening_view 0, [])
 
 abbrev pub birth : PlainAct → ℕ → Birth
 birth act depth = record { act = act; depth = depth }

@@ -1,26 +1,37 @@
-//! Tickets that threads draw for their acts.
+//! Tickets that threads draw for their acts: one order over all sets of tuples.
+//!
+//! Each set of tuples and each process has a token that stands for it in contracts. A process enters a set,
+//! draws a ticket for what it does there, and leaves; a ticket is drawn by one atomic addition, without a
+//! lock. Between any two atomic steps of any threads the ticket rule holds (`specs/Rule.antt`); at the end
+//! `close` tells what it says of the acts of all processes and all sets.
+//!
+//! A token that is dropped leaves `close` out of reach, since some process or set is then missing.
 #![tactic(auto)]
 
-ghost use Rattle.std.specs.Prelude.{◌≡◌, ◌+◌, ◌-◌, ◌<◌, ◌≤◌, ◌++◌, ℕ, List, [], ◌∷◌, length, map, All, true, false, IfOk, vec_len, vec_capacity};
-ghost use Rattle.cl_ticket.specs.Weights.{Each, weigh};
-ghost use Rattle.cl_ticket.specs.Rule.{opening_view, set_view, process_view, name_of, depth_of, if_eval, Ruled, FitsHistory, FitsHalt, halters};
-ghost use Rattle.cl_ticket.specs.Steps.{with_halt, with_sight, seen, leavers, fresh_views, end_view, set_in, person_in, others_in, birth_in, IsSet, IsProcess, HasGuest, Drawn, person, ledger};
-ghost use Rattle.cl_value.specs.Plain.{PlainAct};
-ghost use Rattle.cl_value.specs.Acts.{is_eval};
+ghost use Rattle.std.specs.Prelude.{◌≡◌, ◌+◌, ◌-◌, ◌<◌, ◌≤◌, ◌++◌, ℕ, List, [], ◌∷◌, length, map, All, IfOk, None, Some, if◌then◌else◌, vec_len, vec_capacity};
+ghost use Rattle.cl_value.specs.Plain.{Lives, Main};
+ghost use Rattle.cl_value.specs.Acts.{is_eval, names_made};
+ghost use Rattle.cl_value.specs.Tickets.{by_ticket, NumberedFrom};
 ghost use Rattle.cl_value.specs.Views.{plain_what};
-ghost use Rattle.cl_value.specs.Plain.{Lives};
-ghost use Rattle.cl_ticket.specs.Persons.{Root, Born};
+ghost use Rattle.cl_ticket.specs.Weights.{Each, weigh};
+ghost use Rattle.cl_ticket.specs.Persons.{Root};
+ghost use Rattle.cl_ticket.specs.Rule.{opening_view, name_of, Ruled};
+ghost use Rattle.cl_ticket.specs.Steps.{act_of, seen, birth_in, set_in, end_view, person, has_one, evals_in, IsSet, Drawn};
 ghost use Rattle.cl_ticket.specs.Starts.{start_of, live_of};
+ghost use Rattle.cl_ticket.specs.Points.{names_of, Differ, SameNumbers, AreBelow, OwnActs, HaveOwners, IsMadeBy, FullMarks, HaltMarks, IsHalter};
+ghost use Rattle.cl_ticket.specs.Tokens.{Process, Place, everyone, new_process, new_place, new_places, guest_of, with_guest, with_drawn, with_gathered, all_born, leaver, newborn, after_halt, after_sight, HasGuest};
 
-mod run;
 mod seats;
-mod state;
+#[cfg(test)]
+mod set_state;
 mod table;
+#[cfg(test)]
 mod tests;
+#[cfg(test)]
+mod threads;
 mod view;
 
 pub use crate::seats::{Blank, Plan, ProcSeat, SetSeat, Tickets};
-pub use crate::state::SetState;
 use crate::table::{
     Bears, Both, Draws, Halts, Leaves, LeavesFull, Opens, OpensLast, Said, Sights, TicketSeat,
     TicketTable,
@@ -31,10 +42,10 @@ use cl_value::{NoMemory, What};
 use std::alloc::Global;
 use std::marker::{Brand, PhantomData};
 
-/// The guest stands in the set.
+/// The process enters the set and stands in it as its guest, with those that it has gathered. Takes no memory.
 pub fn enter<K: Plan>(tickets: &Tickets<K>, set: &mut SetSeat<K>, guest: ProcSeat<K>)
-    requires alone { set.old.seat.me.0.persons ≡ [] }
-    ensures stands { set.new.seat.me.0 ≡ set_view (set_in set.old.seat.me.0.sets) guest.seat.me.0.persons set.old.seat.me.0.unborn }
+    requires alone { set.old.guest ≡ None }
+    ensures stands { set.new ≡ with_guest set.old (Some guest) }
 {
     let ProcSeat { seat, name, run: _ } = guest;
     tickets.table.shared.join_seat::<Both>(&mut set.seat, seat);
@@ -49,7 +60,7 @@ fn draw_as<K: Plan, W: Said>(
     _what: &What,
 ) -> u64
     requires table { seat.old.table_id ≡ tickets.now.table.shared.table_id }
-    requires view { IsSet seat.old.me.0 × HasGuest seat.old.me.0 × (seat.old.me.1 ≡ []) }
+    requires view { IsSet seat.old.me.0 × has_one seat.old.me.0.persons × (seat.old.me.1 ≡ []) }
     requires room { length (set_in seat.old.me.0.sets).acts < 16777216 }
     ensures drawn { Drawn W.site W.what seat.old.me.0 result seat.new.me.0 }
     ensures seat { (seat.new.me.1 ≡ []) × (seat.new.table_id ≡ seat.old.table_id) }
@@ -57,31 +68,34 @@ fn draw_as<K: Plan, W: Said>(
     tickets.table.shared.fetch_add::<Draws<W>>(seat, 0, 1)
 }
 
-// Whether it is an `eval`.
-fn makes_process(what: &What) -> bool
-    ensures { result ≡ is_eval (plain_what what.now) }
+// The ticket of the last eval.
+fn last_eval(what: &What, ticket: u64, before: u64) -> u64
+    ensures { result ≡ if is_eval (plain_what what.now) then ticket else before }
 {
-    matches!(what, What::Eval(_))
+    if matches!(what, What::Eval(_)) { ticket } else { before }
 }
 
-/// Draws the ticket of an act of the guest.
+/// Draws the ticket of an act of the guest: at this site, it did this. The act is then the last one of the
+/// set and of the guest, and an `eval` waits for its process. Takes no memory, and nothing is copied.
 pub fn draw<K: Plan>(tickets: &Tickets<K>, set: &mut SetSeat<K>, site: u32, what: &What) -> u64
-    requires guest { HasGuest set.old.seat.me.0 }
-    requires room { length (set_in set.old.seat.me.0.sets).acts < K.entries }
-    ensures drawn { Drawn site (plain_what what.now) set.old.seat.me.0 result set.new.seat.me.0 }
+    requires guest { HasGuest set.old }
+    requires room { length set.old.history.acts < K.entries }
+    ensures drawn { set.new ≡ with_drawn set.old (act_of site (plain_what what.now) (guest_of set.old).person result) }
+    ensures above_set { Each (λ a. a.ticket < result) set.old.history.acts }
+    ensures above_guest { Each (λ a. a.ticket < result) (guest_of set.old).person.acts }
+    ensures above_name { name_of (guest_of set.old).person.origin < result }
 {
     let ticket = draw_as::<K, Brand>(tickets, &mut set.seat, site, what);
-    if makes_process(what) {
-        set.last = ticket;
-    }
+    set.last = last_eval(what, ticket, set.last);
     ticket
 }
 
-/// The guest, with those whom it has gathered. Where `full`, it knows the acts of the set.
+/// The guest leaves the set, with its acts and those that it has gathered. Where `full`, it is marked with the
+/// number of the set and the set's acts. Takes no memory.
 pub fn leave<K: Plan>(tickets: &Tickets<K>, set: &mut SetSeat<K>, full: bool) -> ProcSeat<K>
-    requires guest { HasGuest set.old.seat.me.0 }
-    ensures set { set.new.seat.me.0 ≡ set_view (set_in set.old.seat.me.0.sets) [] set.old.seat.me.0.unborn }
-    ensures process { result.seat.me.0 ≡ process_view (leavers full set.old.seat.me.0.persons (set_in set.old.seat.me.0.sets)) }
+    requires guest { HasGuest set.old }
+    ensures set { set.new ≡ with_guest set.old None }
+    ensures process { result ≡ leaver full set.old }
 {
     let seat = if full {
         tickets.table.shared.split_seat::<LeavesFull>(&mut set.seat)
@@ -97,12 +111,15 @@ pub fn leave<K: Plan>(tickets: &Tickets<K>, set: &mut SetSeat<K>, full: bool) ->
     }
 }
 
-/// The process of the last eval, for which nobody was born.
+/// The token of the process that an `eval` made, where it is the one eval drawn in this set that waits for its
+/// process. The process has the eval's ticket as its name, begins with the eval's live tuple, and is one deeper
+/// than the process that did the eval. Takes no memory.
 pub fn born<K: Plan>(tickets: &Tickets<K>, set: &mut SetSeat<K>) -> ProcSeat<K>
-    requires one { set.old.seat.me.0.unborn ≡ birth_in set.old.seat.me.0.unborn ∷ [] }
-    ensures set { set.new.seat.me.0 ≡ set_view (set_in set.old.seat.me.0.sets) set.old.seat.me.0.persons [] }
-    ensures process { result.seat.me.0 ≡ process_view (person (Born (birth_in set.old.seat.me.0.unborn)) [] ∷ []) }
-    ensures start { start_of (person_in result.seat.me.0.persons).origin ≡ Lives (birth_in set.old.seat.me.0.unborn).act.site (live_of (birth_in set.old.seat.me.0.unborn).act.what) (birth_in set.old.seat.me.0.unborn).depth }
+    requires one { set.old.unborn ≡ birth_in set.old.unborn ∷ [] }
+    ensures set { set.new ≡ all_born set.old }
+    ensures process { result ≡ newborn (birth_in set.old.unborn) }
+    ensures name { name_of result.person.origin ≡ (birth_in set.old.unborn).act.ticket }
+    ensures start { start_of result.person.origin ≡ Lives (birth_in set.old.unborn).act.site (live_of (birth_in set.old.unborn).act.what) (birth_in set.old.unborn).depth }
 {
     let seat = tickets.table.shared.split_seat::<Bears>(&mut set.seat);
     let name = set.last;
@@ -114,10 +131,11 @@ pub fn born<K: Plan>(tickets: &Tickets<K>, set: &mut SetSeat<K>) -> ProcSeat<K>
     }
 }
 
-/// The process failed. The answer is one more than the name of who failed first.
+/// The process failed. The answer is one more than the name of the process that failed first, which may be
+/// this one. Takes no memory.
 pub fn halt<K: Plan>(tickets: &Tickets<K>, seat: &mut ProcSeat<K>) -> u64
     ensures some { 0 < result }
-    ensures seat { seat.new.seat.me.0 ≡ process_view (with_halt (person_in seat.old.seat.me.0.persons) result ∷ others_in seat.old.seat.me.0.persons) }
+    ensures failed { seat.new ≡ after_halt seat.old result }
 {
     let mine = seat.name + 1;
     let found = tickets
@@ -127,17 +145,17 @@ pub fn halt<K: Plan>(tickets: &Tickets<K>, seat: &mut ProcSeat<K>) -> u64
     if found == 0 { mine } else { found }
 }
 
-/// The name of who failed first, if anybody did.
+/// The name of the process that failed first, if one failed. Takes no memory.
 pub fn see_halt<K: Plan>(tickets: &Tickets<K>, seat: &mut ProcSeat<K>) -> Option<u64>
-    ensures { seat.new.seat.me.0 ≡ process_view (with_sight (person_in seat.old.seat.me.0.persons) (seen result) ∷ others_in seat.old.seat.me.0.persons) }
+    ensures saw { seat.new ≡ after_sight seat.old (seen result) }
 {
     let found = tickets.table.shared.load::<Sights>(&mut seat.seat, 1);
     if found == 0 { None } else { Some(found - 1) }
 }
 
-/// Takes in a process that has ended, and all that it had gathered.
+/// Takes in a process that has ended, and all that it had gathered. Takes no memory.
 pub fn gather<K: Plan>(tickets: &Tickets<K>, into: &mut ProcSeat<K>, ended: ProcSeat<K>)
-    ensures gathered { into.new.seat.me.0 ≡ process_view (into.old.seat.me.0.persons ++ ended.seat.me.0.persons) }
+    ensures gathered { into.new ≡ with_gathered into.old ended }
 {
     let ProcSeat {
         seat,
@@ -153,7 +171,7 @@ fn open_next<K: Plan>(tickets: &Tickets<K>, opener: &mut TicketSeat, number: u32
     requires view { (opener.old.me ≡ (opening_view number, [])) × (number < 1024) }
     ensures table { opener.new.table_id ≡ opener.old.table_id }
     ensures opener { opener.new.me ≡ (opening_view (number + 1), []) }
-    ensures set { result.seat.me.0 ≡ set_view (ledger number []) [] [] }
+    ensures set { result ≡ new_place number }
 {
     let seat = tickets.table.shared.split_seat::<Opens>(opener);
     SetSeat {
@@ -173,8 +191,8 @@ fn open_last<K: Plan>(
 ) -> (SetSeat<K>, ProcSeat<K>)
     requires table { opener.table_id ≡ tickets.now.table.shared.table_id }
     requires view { (opener.me ≡ (opening_view number, [])) × (number < 1024) × (number + 1 ≡ length K.shapes) }
-    ensures set { result.0.seat.me.0 ≡ set_view (ledger number []) [] [] }
-    ensures process { result.1.seat.me.0 ≡ process_view (person (Root (number + 1)) [] ∷ []) }
+    ensures set { result.0 ≡ new_place number }
+    ensures process { result.1 ≡ new_process (person (Root (length K.shapes)) []) }
 {
     let seat = tickets.table.shared.split_seat::<OpensLast>(&mut opener);
     (
@@ -206,14 +224,14 @@ fn open_all<K: Plan>(
     ensures room { vec_capacity seats.new ≡ vec_capacity seats.old }
     ensures table { opener.new.table_id ≡ opener.old.table_id }
     ensures opener { opener.new.me ≡ (opening_view last, []) }
-    ensures sets { (map (λ s. s.seat.me.0) seats.new.items ≡ fresh_views last) × (vec_len seats.new ≡ last) }
+    ensures sets { (seats.new.items ≡ new_places last) × (vec_len seats.new ≡ last) }
 {
     for number in 0..last {
         seats.push_reserved(open_next(tickets, opener, number));
     }
 }
 
-/// A table for this many sets.
+/// A fresh table for so many sets. `NoMemory` comes where the allocator refused its two words.
 pub fn begin_table(alloc: Global, sets: u32) -> Result<Blank, NoMemory>
     requires { (0 < sets) × (sets ≤ 1024) }
     ensures { IfOk result (λ blank. blank.sets ≡ sets) }
@@ -228,16 +246,18 @@ pub fn begin_table(alloc: Global, sets: u32) -> Result<Blank, NoMemory>
     }
 }
 
-/// The table of the run, a seat for each set, and that of process 0.
+/// The table of the run, a token for each of its sets in order of number, and that of process 0. `NoMemory`
+/// comes where the allocator refused the list of tokens.
 pub fn make<K: Plan>(
     alloc: Global,
     blank: Blank,
 ) -> Result<(Tickets<K>, Vec<SetSeat<K>>, ProcSeat<K>), NoMemory>
-    requires table { blank.table.shared.table_id ≡ K.table }
+    requires table { blank.table ≡ K.table }
     requires shapes { blank.sets ≡ length K.shapes }
     requires limit { K.entries ≤ 16777216 }
-    ensures sets { IfOk result (λ r. map (λ s. s.seat.me.0) r.1.items ≡ fresh_views (length K.shapes)) }
-    ensures process { IfOk result (λ r. r.2.seat.me.0 ≡ process_view (person (Root (length K.shapes)) [] ∷ [])) }
+    ensures sets { IfOk result (λ r. r.1.items ≡ new_places (length K.shapes)) }
+    ensures process { IfOk result (λ r. r.2 ≡ new_process (person (Root (length K.shapes)) [])) }
+    ensures start { IfOk result (λ r. start_of r.2.person.origin ≡ Main) }
 {
     let Blank {
         table,
@@ -261,17 +281,19 @@ pub fn make<K: Plan>(
 /// What the table had at the end.
 #[derive(Drop)]
 pub struct Closed {
+    /// One more than the number of acts.
     pub next: u64,
+    /// 0, or one more than the name of the process that failed first.
     pub halt: u64,
 }
 
 // The set goes to who closes.
 fn take_in<K: Plan>(tickets: &Tickets<K>, main: &mut TicketSeat, set: SetSeat<K>)
-    requires table { (main.old.table_id ≡ tickets.now.table.shared.table_id) }
-    requires empty { (set.seat.me.0.persons ≡ []) × (set.seat.me.0.unborn ≡ []) }
-    requires main { (main.old.me ≡ (end_view main.old.me.0.persons main.old.me.0.sets, [])) }
+    requires table { main.old.table_id ≡ tickets.now.table.shared.table_id }
+    requires empty { (set.guest ≡ None) × (set.unborn ≡ []) }
+    requires main { main.old.me ≡ (end_view main.old.me.0.persons main.old.me.0.sets, []) }
     ensures table { main.new.table_id ≡ main.old.table_id }
-    ensures view { main.new.me ≡ (end_view main.old.me.0.persons (main.old.me.0.sets ++ set_in set.seat.me.0.sets ∷ []), []) }
+    ensures view { main.new.me ≡ (end_view main.old.me.0.persons (main.old.me.0.sets ++ set.history ∷ []), []) }
 {
     let SetSeat {
         seat,
@@ -285,26 +307,38 @@ fn take_in<K: Plan>(tickets: &Tickets<K>, main: &mut TicketSeat, set: SetSeat<K>
 
 // All sets go to who closes.
 fn take_all<K: Plan>(tickets: &Tickets<K>, main: &mut TicketSeat, sets: Vec<SetSeat<K>>)
-    requires table { (main.old.table_id ≡ tickets.now.table.shared.table_id) }
-    requires empty { All (λ s. (s.seat.me.0.persons ≡ []) × (s.seat.me.0.unborn ≡ [])) sets.items }
+    requires table { main.old.table_id ≡ tickets.now.table.shared.table_id }
+    requires empty { All (λ s. (s.guest ≡ None) × (s.unborn ≡ [])) sets.items }
     requires main { main.old.me ≡ (end_view main.old.me.0.persons [], []) }
     ensures table { main.new.table_id ≡ main.old.table_id }
-    ensures view { main.new.me ≡ (end_view main.old.me.0.persons (map (λ s. set_in s.seat.me.0.sets) sets.items), []) }
+    ensures view { main.new.me ≡ (end_view main.old.me.0.persons (map (λ s. s.history) sets.items), []) }
 {
     for set in sets {
         take_in(tickets, main, set);
     }
 }
 
-/// Where process 0 hands in all sets and has gathered as many as evals were made, the rule holds of what it hands in alone.
+/// Ends the run: process 0 hands in all sets, and has gathered as many processes as evals were done. Then no
+/// other token stands, so what is told holds of the processes and the sets that are handed in alone. Takes no
+/// memory.
 pub fn close<K: Plan>(tickets: Tickets<K>, sets: Vec<SetSeat<K>>, main: ProcSeat<K>) -> Closed
-    requires empty { All (λ s. (s.seat.me.0.persons ≡ []) × (s.seat.me.0.unborn ≡ [])) sets.items }
-    requires main { main.name ≡ 0 }
+    requires empty { All (λ s. (s.guest ≡ None) × (s.unborn ≡ [])) sets.items }
+    requires main { name_of main.person.origin ≡ 0 }
     requires sets { length sets.items ≡ length K.shapes }
-    requires gathered { length (others_in main.seat.me.0.persons) ≡ weigh (λ s. weigh (λ a. if_eval (is_eval a.what) 1) s.acts) (map (λ s. set_in s.seat.me.0.sets) sets.items) }
-    ensures halted { FitsHalt result.halt (end_view main.seat.me.0.persons (map (λ s. set_in s.seat.me.0.sets) sets.items)) × (0 < result.halt → 1 ≤ halters result.halt (end_view main.seat.me.0.persons (map (λ s. set_in s.seat.me.0.sets) sets.items))) }
-    ensures marked { (history : ℕ → List PlainAct) × FitsHistory history (end_view main.seat.me.0.persons (map (λ s. set_in s.seat.me.0.sets) sets.items)) }
-    ensures ruled { (0 < result.next) × Ruled (result.next - 1) (end_view main.seat.me.0.persons (map (λ s. set_in s.seat.me.0.sets) sets.items) ∷ []) }
+    requires gathered { length main.gathered ≡ evals_in (map (λ s. s.history) sets.items) }
+    ensures tickets { NumberedFrom 1 (by_ticket (map (λ s. s.history) sets.items)) }
+    ensures next { result.next ≡ length (by_ticket (map (λ s. s.history) sets.items)) + 1 }
+    ensures numbers { AreBelow (length K.shapes) (map (λ s. s.history.set) sets.items) }
+    ensures root { main.person.origin ≡ Root (length K.shapes) }
+    ensures names { Differ (names_of (everyone main)) }
+    ensures made { SameNumbers (names_of main.gathered) (names_made (by_ticket (map (λ s. s.history) sets.items))) }
+    ensures acts { OwnActs (map (λ s. s.history) sets.items) (everyone main) }
+    ensures owners { HaveOwners (map (λ s. s.history) sets.items) (everyone main) }
+    ensures starts { Each (IsMadeBy (everyone main)) main.gathered }
+    ensures full { FullMarks (map (λ s. s.history) sets.items) (everyone main) }
+    ensures halt { HaltMarks result.halt (everyone main) }
+    ensures halter { IsHalter result.halt (everyone main) }
+    ensures ruled { Ruled (result.next - 1) (end_view (everyone main) (map (λ s. s.history) sets.items) ∷ []) }
 {
     let ProcSeat {
         seat: mut closer,

@@ -1,8 +1,8 @@
-ghost use Rattle.std.specs.Prelude.{◌≡◌, length, IfOk, true};
+ghost use Rattle.std.specs.Prelude.{◌≡◌, ◌∷◌, [], None, length, IfOk, IfSome, true};
 ghost use Rattle.cl_value.specs.Acts.{is_eval};
 ghost use Rattle.cl_value.specs.Views.{plain_what};
 
-use crate::run::{one_state, two};
+use crate::threads::four;
 use crate::{Blank, Plan, ProcSeat, Tickets, begin_table, halt, make, see_halt};
 use cl_value::{Items, Live, LiveField, NoMemory, Tuple, Value, What};
 use std::alloc::Global;
@@ -19,46 +19,20 @@ fn an_eval(alloc: Global) -> Result<What, NoMemory>
 }
 
 #[test]
-fn two_threads_draw_from_two_sets(rt: HostRuntime) -> Result<(), Fail> {
-    let blank = begin_table(rt.alloc(), 2)?;
+fn four_threads_draw_40000_tickets(rt: HostRuntime) -> Result<(), Fail> {
+    let blank = begin_table(rt.alloc(), 4)?;
     let out = What::Out(Tuple::with_room(rt.alloc())?);
     let eval = an_eval(rt.alloc())?;
-    let next = two::<Brand, _>(&rt, rt.alloc(), blank, &out, &eval, 4096, 1000)?;
-    assert!(rt; next == Some(2002));
-    Ok(())
-}
-
-// Process 1 fails first, and process 0 sees it.
-fn fails<K: Plan>(tickets: &Tickets<K>, main: &mut ProcSeat<K>, child: &mut ProcSeat<K>) -> bool {
-    let before = see_halt(tickets, main);
-    let first = halt(tickets, child);
-    let second = halt(tickets, main);
-    let after = see_halt(tickets, main);
-    before.is_none() && first == 2 && second == 2 && after == Some(1)
-}
-
-fn one_set<K: Plan>(alloc: Global, blank: Blank) -> Result<bool, NoMemory>
-    requires table { blank.table.shared.table_id ≡ K.table }
-    requires shapes { blank.sets ≡ length K.shapes }
-    requires one { length K.shapes ≡ 1 }
-    requires limit { K.entries ≡ 4096 }
-{
-    let eval = an_eval(alloc)?;
-    let (tickets, seats, main) = make::<K>(alloc, blank)?;
-    let Some(mut set) = one_state(seats, 4096) else {
-        return Ok(false);
-    };
-    if set.is_full() {
-        return Ok(false);
-    }
-    let (mut main, mut child, ticket) = set.eval(&tickets, main, 0, &eval);
-    let named = main.name() == 0 && child.name() == 1 && ticket == 1;
-    Ok(named && fails(&tickets, &mut main, &mut child))
-}
-
-#[test]
-fn a_child_fails_first(rt: HostRuntime) -> Result<(), Fail> {
-    let blank = begin_table(rt.alloc(), 1)?;
-    assert!(rt; one_set::<Brand>(rt.alloc(), blank)?);
+    let drawn = four::<Brand, _>(&rt, rt.alloc(), blank, (&out, &eval), 16384, 10000)?;
+    let lengths = drawn.map(
+        |d| [
+            d.next,
+            d.first.len() as u64,
+            d.second.len() as u64,
+            d.third.len() as u64,
+            d.fourth.len() as u64,
+        ],
+    );
+    assert_eq!(rt; lengths, Some([40001, 10000, 10000, 10000, 10000]));
     Ok(())
 }

@@ -5,4 +5,4 @@ use Rattle.cl_ticket.proofs.born.Goals as goal
 pub split_seat-seat-requires : goal.split_seat-seat-requires
 split_seat-seat-requires g c =
     let w = c.args.tickets.now.words in
-    (c.args.set.now.here ∙ sym c.args.tickets.now.here, omega arith, bears_as c.args.set.now.seat.id c.args.set.now.seat.me.0)
+    (c.set.invariant.here ∙ sym c.args.tickets.now.here, omega arith, bears_as c.set.inside.seat.id c.set.inside.seat.me.0)

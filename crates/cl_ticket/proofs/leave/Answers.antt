@@ -5,9 +5,9 @@ use Rattle.cl_ticket.proofs.leave.Goals as goal
 pub split_seat-seat-requires : goal.split_seat-seat-requires
 split_seat-seat-requires g c =
     let w = c.args.tickets.now.words in
-    (c.args.set.now.here ∙ sym c.args.tickets.now.here, omega arith, leaves_full_as c.args.set.now.seat.id c.args.set.now.seat.me.0)
+    (c.set.invariant.here ∙ sym c.args.tickets.now.here, omega arith, leaves_full_as c.set.inside.seat.id c.set.inside.seat.me.0)
 
 pub split_seat-seat-requires-else-full : goal.split_seat-seat-requires-else-full
 split_seat-seat-requires-else-full g c =
     let w = c.args.tickets.now.words in
-    (c.args.set.now.here ∙ sym c.args.tickets.now.here, omega arith, leaves_as c.args.set.now.seat.id c.args.set.now.seat.me.0)
+    (c.set.invariant.here ∙ sym c.args.tickets.now.here, omega arith, leaves_as c.set.inside.seat.id c.set.inside.seat.me.0)

@@ -5,5 +5,5 @@ use Rattle.cl_ticket.proofs.see_halt.Goals as goal
 pub load-found-requires : goal.load-found-requires
 load-found-requires g c =
     let w = c.args.tickets.now.words in
-    let me = c.args.seat.now.seat.me in
-    (c.args.seat.now.here ∙ sym c.args.tickets.now.here, omega arith, sights_as c.args.tickets.now.table.shared.table_id.slots c.args.seat.now.seat.id me (whole-process me c.args.seat.now.view c.args.seat.now.slots))
+    let me = c.seat.inside.seat.me in
+    (c.seat.invariant.here ∙ sym c.args.tickets.now.here, omega arith, sights_as c.args.tickets.now.table.shared.table_id.slots c.seat.inside.seat.id me (whole-process me c.seat.invariant.view c.seat.invariant.slots))
