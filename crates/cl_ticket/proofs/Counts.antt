@@ -1,18 +1,22 @@
 -- One more act.
-use Rattle.std.proofs.Common.{◌≡◌, ◌+◌, List, [], ◌∷◌, ◌++◌, length, ap, arith, length-append}
+use Rattle.std.proofs.Common.{◌≡◌, ◌+◌, [], ◌∷◌, ◌++◌, length, ap, arith, length-append, ◌∙◌}
 use Rattle.cl_ticket.specs.Weights.{weigh}
 use Rattle.cl_ticket.specs.Rule.{if_eval}
-use Rattle.cl_ticket.specs.Steps.{set_in}
-use Rattle.cl_value.specs.Plain.{PlainAct}
+use Rattle.cl_ticket.specs.Steps.{plain_history, evals_in}
+use Rattle.cl_ticket.specs.Tokens.{Place, Process, with_guest, with_drawn}
+use Rattle.std.specs.Prelude.{Some}
+use Rattle.cl_value.specs.Plain.{PlainAct, PlainHistory}
 use Rattle.cl_value.specs.Acts.{is_eval}
-use Rattle.cl_ticket.specs.declared.view.View.{View}
 use Rattle.cl_ticket.proofs.Sums.{weigh-append}
 
-pub length-more : (old new : List PlainAct) (a : PlainAct) → new ≡ old ++ a ∷ [] → length new ≡ length old + 1
-length-more old new a e = let l = length-append old (a ∷ []) in let m : length new ≡ length (old ++ a ∷ []) = ap length e in omega arith
+pub counts-more : (s t : PlainHistory) (a : PlainAct) → t ≡ plain_history s.set (s.acts ++ a ∷ []) → (length t.acts ≡ length s.acts + 1) × (evals_in (t ∷ []) ≡ evals_in (s ∷ []) + if_eval (is_eval a.what) 1)
+counts-more s t a e =
+    let l = length-append s.acts (a ∷ []) in
+    let m : length t.acts ≡ length (s.acts ++ a ∷ []) = ap (λ (h : PlainHistory). length h.acts) e in
+    let w = weigh-append (λ (x : PlainAct). if_eval (is_eval x.what) 1) s.acts (a ∷ []) in
+    let v : evals_in (t ∷ []) ≡ evals_in (plain_history s.set (s.acts ++ a ∷ []) ∷ []) = ap (λ (h : PlainHistory). evals_in (h ∷ [])) e in
+    (omega arith, omega arith)
 
-pub evals-more : (old new : List PlainAct) (a : PlainAct) → new ≡ old ++ a ∷ [] → weigh (λ (x : PlainAct). if_eval (is_eval x.what) 1) new ≡ weigh (λ (x : PlainAct). if_eval (is_eval x.what) 1) old + if_eval (is_eval a.what) 1
-evals-more old new a e = let l = weigh-append (λ (x : PlainAct). if_eval (is_eval x.what) 1) old (a ∷ []) in let m : weigh (λ (x : PlainAct). if_eval (is_eval x.what) 1) new ≡ weigh (λ (x : PlainAct). if_eval (is_eval x.what) 1) (old ++ a ∷ []) = ap (weigh (λ (x : PlainAct). if_eval (is_eval x.what) 1)) e in omega arith
-
-abbrev pub acts_in : View → List PlainAct
-acts_in v = (set_in v.sets).acts
+-- who enters a set and draws adds an act to the set's history
+pub drawn-more : (s t u : Place) (g : Process) (a : PlainAct) → t ≡ with_guest s (Some g) → u ≡ with_drawn t a → u.history ≡ plain_history s.history.set (s.history.acts ++ a ∷ [])
+drawn-more s t u g a stands drawn = ap (λ (p : Place). p.history) drawn ∙ ap (λ (p : Place). plain_history p.history.set (p.history.acts ++ a ∷ [])) stands

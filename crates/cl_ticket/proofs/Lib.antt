@@ -11,4 +11,5 @@ pub mod Counts
 pub mod Rising
 pub mod Points
 pub mod Told
-pub mod Rows
+pub mod Places
+pub mod Shapes

@@ -1,5 +1,5 @@
 -- What close tells, from the rule of the one view that has everything.
-use Rattle.std.proofs.Common.{◌≡◌, ◌≢◌, ℕ, eqb, zero, suc, ◌+◌, ◌<◌, ◌≤◌, List, [], ◌∷◌, map, length, Bool, true, false, refl, sym, ap, subst, arith, ◌∙◌}
+use Rattle.std.proofs.Common.{◌≡◌, ◌≢◌, ℕ, eqb, zero, suc, ◌+◌, ◌-◌, ◌<◌, ◌≤◌, List, [], ◌∷◌, ◌++◌, map, length, Bool, true, false, refl, sym, ap, subst, arith, ◌∙◌}
 use Rattle.std.specs.Prelude.{nat_lt, if◌then◌else◌, Contains}
 use mathlib.Core.Option.{some, some-injective, some-ne-none}
 use mathlib.Core.List.{IsPrefix}
@@ -13,18 +13,18 @@ use Rattle.cl_ticket.specs.Weights.{weigh, upto, under, Each}
 use Rattle.cl_ticket.specs.Persons.{Birth, Mark, Origin, Root, Born, Person}
 use Rattle.cl_ticket.specs.Codes.{birth_coded}
 use Rattle.cl_ticket.specs.Rule.{if_eval, name_of, depth_of, by_birth, by_root, in_sets, of_persons, births, evals, known, Rises, Fits, FitsPerson, FitsHistory, halters, Ruled}
-use Rattle.cl_ticket.specs.Steps.{end_view}
-use Rattle.cl_ticket.specs.Tokens.{Place}
+use Rattle.cl_ticket.specs.Steps.{end_view, tickets_of}
+use Rattle.cl_ticket.specs.Tokens.{Place, Process, everyone, with_gathered}
 use Rattle.cl_ticket.specs.Starts.{start_of}
-use Rattle.cl_ticket.specs.Points.{is, times, names_of, Differ, SameNumbers, AreBelow, OwnActs, HaveOwners, IsMadeBy, FullMarks, IsHalter}
+use Rattle.cl_ticket.specs.Points.{is, times, names_of, Differ, SameNumbers, AreBelow, OwnActs, HaveOwners, IsMadeBy, FullMarks, IsHalter, DrawnOnce}
 use Rattle.cl_ticket.proofs.Apart.{match_weight, match-self, match-is}
-use Rattle.cl_ticket.proofs.Sums.{weigh-at, weigh-none, each-at, each-map}
+use Rattle.cl_ticket.proofs.Sums.{weigh-append, weigh-at, weigh-none, each-at, each-map}
 use Rattle.cl_ticket.proofs.Rising.{above-none}
 use Rattle.cl_ticket.proofs.Points.{is-here, is-else, each-weighs, upto-once, above-in-sets, weigh-in_order, weigh-in-sets, rises-in_order, names-differ, names-made, numbers-differ, person-acts}
 use Rattle.cl_ticket.proofs.Marks.{under-past}
 
 -- ---- lists
-weigh-map : {A B : Type 0} (h : B → ℕ) (f : A → B) (l : List A) → weigh h (map f l) ≡ weigh (λ x. h (f x)) l
+pub weigh-map : {A B : Type 0} (h : B → ℕ) (f : A → B) (l : List A) → weigh h (map f l) ≡ weigh (λ x. h (f x)) l
 weigh-map h f [] = refl
 weigh-map h f (x ∷ xs) = omega (arith, weigh-map h f xs)
 
@@ -213,3 +213,43 @@ told-halter halt people sets some_halter lt =
 -- the numbers of the sets of these places
 pub numbers-of : (places : List Place) (m : ℕ) → AreBelow m (map (λ (s : PlainHistory). s.set) (map (λ (p : Place). p.history) places)) → AreBelow m (map (λ (p : Place). p.history.set) places)
 numbers-of places m all x = let a = weigh-map (is x) (λ (s : PlainHistory). s.set) (map (λ (p : Place). p.history) places) in let b = weigh-map (λ (s : PlainHistory). is x s.set) (λ (p : Place). p.history) places in let c = weigh-map (is x) (λ (p : Place). p.history.set) places in let e = all x in omega arith
+
+upto-under : (h : ℕ → ℕ) (n : ℕ) → h 0 + upto h n ≡ under h (suc n)
+upto-under h zero = refl
+upto-under h (suc n) = omega (arith, upto-under h n)
+
+-- 0 and the tickets of everyone are the numbers below the next one
+pub drawn-once : (next : ℕ) (people : List Person) (sets : List PlainHistory) → 0 < next → Ruled (next - 1) (end_view people sets ∷ []) → DrawnOnce next people
+drawn-once next people sets some_next r x =
+    let n = next - 1 in
+    let k : PlainAct → ℕ = λ a. is x a.ticket in
+    let a = each-weighs (λ (p : Person). times x (tickets_of p.acts)) (λ (p : Person). weigh k p.acts) people (each-by (λ (p : Person). times x (tickets_of p.acts) ≡ weigh k p.acts) people (λ i p at. weigh-map (is x) (λ (b : PlainAct). b.ticket) p.acts)) in
+    let b = r.owners k in
+    let c = r.tickets (is x) in
+    let d = upto-under (is x) n in
+    let same : suc n ≡ next = omega arith in
+    let e : under (is x) (suc n) ≡ under (is x) next = ap (under (is x)) same in
+    let sum : is x 0 + weigh (λ (p : Person). times x (tickets_of p.acts)) people ≡ under (is x) next = omega arith in
+    sum ∙ under-is x next
+
+-- the same for four persons and the lists of what they drew
+pub four-drawn : (next : ℕ) (people : List Person) (p q r s : Person) (a b c d : List ℕ) → DrawnOnce next people → people ≡ p ∷ q ∷ r ∷ s ∷ [] → a ≡ tickets_of p.acts → b ≡ tickets_of q.acts → c ≡ tickets_of r.acts → d ≡ tickets_of s.acts → AreBelow next (0 ∷ (a ++ (b ++ (c ++ d))))
+four-drawn next people p q r s a b c d once four is_a is_b is_c is_d x =
+    let o = once x in
+    let f : weigh (λ (y : Person). times x (tickets_of y.acts)) people ≡ times x (tickets_of p.acts) + (times x (tickets_of q.acts) + (times x (tickets_of r.acts) + (times x (tickets_of s.acts) + 0))) = ap (weigh (λ (y : Person). times x (tickets_of y.acts))) four in
+    let ta : times x a ≡ times x (tickets_of p.acts) = ap (times x) is_a in
+    let tb : times x b ≡ times x (tickets_of q.acts) = ap (times x) is_b in
+    let tc : times x c ≡ times x (tickets_of r.acts) = ap (times x) is_c in
+    let td : times x d ≡ times x (tickets_of s.acts) = ap (times x) is_d in
+    let u : times x (a ++ (b ++ (c ++ d))) ≡ times x a + times x (b ++ (c ++ d)) = weigh-append (is x) a (b ++ (c ++ d)) in
+    let v : times x (b ++ (c ++ d)) ≡ times x b + times x (c ++ d) = weigh-append (is x) b (c ++ d) in
+    let w : times x (c ++ d) ≡ times x c + times x d = weigh-append (is x) c d in
+    let whole : times x (0 ∷ (a ++ (b ++ (c ++ d)))) ≡ is x 0 + times x (a ++ (b ++ (c ++ d))) = refl in
+    let sum : is x 0 + weigh (λ (y : Person). times x (tickets_of y.acts)) people ≡ times x (0 ∷ (a ++ (b ++ (c ++ d)))) = omega arith in
+    sym sum ∙ o
+
+-- who has gathered three that had gathered nobody
+pub three-gathered : (m q r s m1 m2 m3 : Process) → m1 ≡ with_gathered m q → m2 ≡ with_gathered m1 r → m3 ≡ with_gathered m2 s → m.gathered ≡ [] → q.gathered ≡ [] → r.gathered ≡ [] → s.gathered ≡ [] → everyone m3 ≡ m.person ∷ q.person ∷ r.person ∷ s.person ∷ []
+three-gathered m q r s m1 m2 m3 e1 e2 e3 nm nq nr ns =
+    let all : everyone (with_gathered (with_gathered (with_gathered m q) r) s) ≡ m.person ∷ q.person ∷ r.person ∷ s.person ∷ [] = λ i. m.person ∷ (((nm i ++ (q.person ∷ nq i)) ++ (r.person ∷ nr i)) ++ (s.person ∷ ns i)) in
+    ap everyone e3 ∙ (ap (λ (x : Process). everyone (with_gathered x s)) e2 ∙ (ap (λ (x : Process). everyone (with_gathered (with_gathered x r) s)) e1 ∙ all))

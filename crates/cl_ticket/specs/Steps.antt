@@ -5,7 +5,7 @@ use Rattle.cl_ticket.specs.Weights.{Each, weigh}
 use Rattle.cl_ticket.specs.Rule.{opening_view, set_view, process_view, name_of, depth_of, if_eval}
 use Rattle.cl_value.specs.Plain.{PlainWhat, DidOut, PlainAct, PlainHistory}
 use Rattle.cl_value.specs.Acts.{is_eval}
-use Rattle.cl_ticket.specs.Persons.{Birth, Origin, Root, Born, Person}
+use Rattle.cl_ticket.specs.Persons.{Birth, Mark, Origin, Root, Born, Person}
 use Rattle.cl_ticket.specs.declared.view.View.{View}
 
 abbrev pub act : ℕ → ℕ → ℕ → PlainWhat → PlainAct
@@ -18,9 +18,13 @@ person origin acts = record { origin = origin; acts = acts; full = []; failed = 
 abbrev pub with_act : Person → PlainAct → Person
 with_act p a = record { origin = p.origin; acts = p.acts ++ a ∷ []; full = p.full; failed = p.failed; saw = p.saw }
 
+-- the mark of who met this full set
+abbrev pub full_mark : PlainHistory → Mark
+full_mark s = record { set = s.set; acts = s.acts }
+
 -- the person that met this full set
 abbrev pub with_mark : Person → PlainHistory → Person
-with_mark p s = record { origin = p.origin; acts = p.acts; full = record { set = s.set; acts = s.acts } ∷ p.full; failed = p.failed; saw = p.saw }
+with_mark p s = record { origin = p.origin; acts = p.acts; full = full_mark s ∷ p.full; failed = p.failed; saw = p.saw }
 
 abbrev pub plain_history : ℕ → List PlainAct → PlainHistory
 plain_history number acts = record { set = number; acts = acts }

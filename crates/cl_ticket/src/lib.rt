@@ -21,6 +21,8 @@ ghost use Rattle.cl_ticket.specs.Starts.{start_of, live_of};
 ghost use Rattle.cl_ticket.specs.Points.{names_of, Differ, SameNumbers, AreBelow, OwnActs, HaveOwners, IsMadeBy, FullMarks, HaltMarks, IsHalter};
 ghost use Rattle.cl_ticket.specs.Tokens.{Process, Place, everyone, new_process, new_place, new_places, guest_of, with_guest, with_drawn, with_gathered, all_born, leaver, newborn, after_halt, after_sight, HasGuest};
 
+#[cfg(test)]
+mod rows;
 mod seats;
 #[cfg(test)]
 mod set_state;
@@ -72,7 +74,11 @@ fn draw_as<K: Plan, W: Said>(
 fn last_eval(what: &What, ticket: u64, before: u64) -> u64
     ensures { result ≡ if is_eval (plain_what what.now) then ticket else before }
 {
-    if matches!(what, What::Eval(_)) { ticket } else { before }
+    if matches!(what, What::Eval(_)) {
+        ticket
+    } else {
+        before
+    }
 }
 
 /// Draws the ticket of an act of the guest: at this site, it did this. The act is then the last one of the

@@ -169,10 +169,7 @@ fn close_four<K: Plan>(
     };
     let (one, two, three, four) = sets;
     let few = one.evals <= 3 && two.evals <= 3 && three.evals <= 3 && four.evals <= 3;
-    if !few
-        || one.evals + two.evals + three.evals + four.evals != 3
-        || main.name() != 0
-    {
+    if !few || one.evals + two.evals + three.evals + four.evals != 3 || main.name() != 0 {
         return Ok(None);
     }
     ended.push_reserved(one.into_seat());
@@ -190,6 +187,50 @@ pub struct Drawn {
     pub second: Vec<u64>,
     pub third: Vec<u64>,
     pub fourth: Vec<u64>,
+}
+
+// The first process gathers the others, and hands in the four sets.
+fn finish<K: Plan>(
+    alloc: Global,
+    tickets: Tickets<K>,
+    sets: (SetState<K>, SetState<K>, SetState<K>, SetState<K>),
+    workers: (Worker<K>, Worker<K>, Worker<K>, Worker<K>),
+) -> Result<Option<Drawn>, NoMemory>
+    requires four { length K.shapes ≡ 4 }
+    requires first { (workers.0.seat.gathered ≡ []) × (workers.1.seat.gathered ≡ []) }
+    requires last { (workers.2.seat.gathered ≡ []) × (workers.3.seat.gathered ≡ []) }
+    ensures once { IfOk result (λ r. IfSome r (λ d. AreBelow d.next (0 ∷ (d.first.items ++ (d.second.items ++ (d.third.items ++ d.fourth.items)))))) }
+{
+    let (main, second, third, fourth) = workers;
+    let Worker {
+        seat: mut main,
+        drawn: first,
+    } = main;
+    let Worker {
+        seat: second,
+        drawn: second_drawn,
+    } = second;
+    let Worker {
+        seat: third,
+        drawn: third_drawn,
+    } = third;
+    let Worker {
+        seat: fourth,
+        drawn: fourth_drawn,
+    } = fourth;
+    gather(&tickets, &mut main, second);
+    gather(&tickets, &mut main, third);
+    gather(&tickets, &mut main, fourth);
+    let Some(next) = close_four(alloc, tickets, sets, main)? else {
+        return Ok(None);
+    };
+    Ok(Some(Drawn {
+        next,
+        first,
+        second: second_drawn,
+        third: third_drawn,
+        fourth: fourth_drawn,
+    }))
 }
 
 // Four threads do so many acts each, in a set each. Where the counts agree at the end, 0 and the tickets that
@@ -210,7 +251,7 @@ pub fn four<K: Plan + Send + Sync, R: Threads + Wait + Sync>(
     requires some { 3 ≤ count }
     requires out { is_eval (plain_what whats.0.now) ≡ false }
     requires eval { is_eval (plain_what whats.1.now) ≡ true }
-    ensures once { IfOk result (λ r. IfSome r (λ d. AreBelow d.next (0 ∷ d.first.items ++ d.second.items ++ d.third.items ++ d.fourth.items))) }
+    ensures once { IfOk result (λ r. IfSome r (λ d. AreBelow d.next (0 ∷ (d.first.items ++ (d.second.items ++ (d.third.items ++ d.fourth.items)))))) }
 {
     let (out, eval) = whats;
     let (tickets, seats, main) = make::<K>(alloc, blank)?;
@@ -250,39 +291,11 @@ pub fn four<K: Plan + Send + Sync, R: Threads + Wait + Sync>(
             ensures gathered { (result.0.seat.gathered ≡ third.seat.gathered) × (result.1.seat.gathered ≡ fourth.seat.gathered) }
         { work_both(rt, &tickets, (&three, &four), third, fourth, out, count) },
     );
-    let Worker {
-        seat: mut main,
-        drawn: first,
-    } = main;
-    let Worker {
-        seat: second,
-        drawn: second_drawn,
-    } = second;
-    let Worker {
-        seat: third,
-        drawn: third_drawn,
-    } = third;
-    let Worker {
-        seat: fourth,
-        drawn: fourth_drawn,
-    } = fourth;
-    gather(&tickets, &mut main, second);
-    gather(&tickets, &mut main, third);
-    gather(&tickets, &mut main, fourth);
     let sets = (
         one.into_inner(),
         two.into_inner(),
         three.into_inner(),
         four.into_inner(),
     );
-    let Some(next) = close_four(alloc, tickets, sets, main)? else {
-        return Ok(None);
-    };
-    Ok(Some(Drawn {
-        next,
-        first,
-        second: second_drawn,
-        third: third_drawn,
-        fourth: fourth_drawn,
-    }))
+    finish(alloc, tickets, sets, (main, second, third, fourth))
 }

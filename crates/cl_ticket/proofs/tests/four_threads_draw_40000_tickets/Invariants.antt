@@ -1,5 +1,5 @@
 use Rattle.std.proofs.Common.{[], ◌∷◌}
-use Rattle.cl_ticket.proofs.Rows.{shape}
+use Rattle.cl_ticket.proofs.Shapes.{shape}
 use Rattle.cl_ticket.proofs.tests.four_threads_draw_40000_tickets.Given as goal
 
 abbrev pub ghosts-four : goal.ghosts-four
