@@ -1,5 +1,5 @@
 -- Values of a coded type that no weight tells apart are one.
-use Rattle.std.proofs.Common.{◌≡◌, ℕ, eqb, eq-eqb, zero, suc, ◌+◌, ◌≤◌, Bool, true, false, true≢false, refl, sym, ap, subst, arith, ◌∙◌}
+use Rattle.std.proofs.Common.{◌≡◌, ℕ, eqb, eq-eqb, ◌≤◌, Bool, true, false, true≢false, refl, sym, ap, arith, ◌∙◌}
 use base.Stored.{Gv, gnil, gnum, gcons, Coded}
 use Rattle.cl_value.specs.Plain.{PlainAct}
 use Rattle.cl_ticket.specs.Codes.{act_coded}

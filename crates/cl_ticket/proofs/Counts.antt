@@ -1,6 +1,5 @@
 -- One more act.
 use Rattle.std.proofs.Common.{◌≡◌, ◌+◌, [], ◌∷◌, ◌++◌, length, ap, arith, length-append, ◌∙◌}
-use Rattle.cl_ticket.specs.Weights.{weigh}
 use Rattle.cl_ticket.specs.Rule.{if_eval}
 use Rattle.cl_ticket.specs.Steps.{plain_history, evals_in}
 use Rattle.cl_ticket.specs.Tokens.{Place, Process, with_guest, with_drawn}

@@ -1,10 +1,10 @@
 -- Opening, leaving and being born keep the rule.
-use Rattle.std.proofs.Common.{◌≡◌, ℕ, suc, ◌+◌, ◌<◌, List, [], ◌∷◌, ◌++◌, set, drop, refl, sym, ap, arith, true≢false}
+use Rattle.std.proofs.Common.{◌≡◌, ℕ, ◌+◌, ◌<◌, List, [], ◌∷◌, ◌++◌, set, drop, refl, sym, arith, true≢false}
 use mathlib.Core.Option.{some}
 use lib.ListN.{get_elem?}
 use Rattle.cl_ticket.specs.Weights.{weigh, under, Each}
-use Rattle.cl_ticket.specs.Rule.{opening_view, set_view, process_view, of_persons, evals, births, known, FitsPerson, FitsHalt, FitsUnborn, halters, Holds}
-use Rattle.cl_ticket.specs.Steps.{plain_history, left_opening, right_opening, left_last, left_leave, right_leave, left_born, right_born, first_born}
+use Rattle.cl_ticket.specs.Rule.{opening_view, process_view, of_persons, evals, births, known, FitsPerson, FitsHalt, FitsUnborn, halters, Holds}
+use Rattle.cl_ticket.specs.Steps.{left_opening, right_opening, left_last, left_leave, right_leave, left_born, right_born, first_born}
 use mathlib.Core.List.{IsPrefix}
 use Rattle.cl_value.specs.Plain.{PlainAct}
 use Rattle.cl_ticket.specs.Persons.{Person, Mark, Birth}

@@ -1,5 +1,5 @@
 -- The places of a new table.
-use Rattle.std.proofs.Common.{◌≡◌, ℕ, zero, suc, ◌+◌, ◌<◌, List, [], ◌∷◌, ◌++◌, map, length, refl, arith, length-append}
+use Rattle.std.proofs.Common.{◌≡◌, ℕ, zero, suc, [], ◌∷◌, map, length, refl, arith, length-append}
 use Rattle.std.specs.Prelude.{None, All}
 use Rattle.std.proofs.lemmas.List.Elements.{All-append}
 use Rattle.cl_value.specs.Plain.{PlainAct, PlainHistory}

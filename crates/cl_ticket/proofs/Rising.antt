@@ -1,5 +1,5 @@
 -- From weights to lists: lists of acts whose tickets rise are equal where they weigh the same.
-use Rattle.std.proofs.Common.{◌≡◌, ◌≢◌, ◌⊎◌, inl, inr, ℕ, eqb, eq-eqb, ne_eqb, ◌<◌, ◌≤◌, List, [], ◌∷◌, Bool, true, false, refl, sym, ap, subst, arith}
+use Rattle.std.proofs.Common.{◌≡◌, ◌≢◌, ◌⊎◌, inl, inr, ℕ, eqb, eq-eqb, ne_eqb, ◌<◌, ◌≤◌, List, [], ◌∷◌, refl, sym, ap, subst, arith}
 use Rattle.cl_ticket.specs.Weights.{weigh}
 use Rattle.cl_ticket.specs.Rule.{if_eval, Rises}
 use Rattle.cl_value.specs.Plain.{PlainAct}

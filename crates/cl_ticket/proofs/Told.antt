@@ -8,12 +8,12 @@ use native.Mathlib.Decide.{ℕ_discrete}
 use lib.ListN.{get_elem?}
 use Rattle.cl_value.specs.Plain.{PlainAct, PlainHistory}
 use Rattle.cl_value.specs.Acts.{is_eval, acts_of, names_made}
-use Rattle.cl_value.specs.Tickets.{in_order, acts_in, by_ticket, NumberedFrom}
+use Rattle.cl_value.specs.Tickets.{acts_in, by_ticket, NumberedFrom}
 use Rattle.cl_ticket.specs.Weights.{weigh, upto, under, Each}
 use Rattle.cl_ticket.specs.Persons.{Birth, Mark, Origin, Root, Born, Person}
 use Rattle.cl_ticket.specs.Codes.{birth_coded}
-use Rattle.cl_ticket.specs.Rule.{if_eval, name_of, depth_of, by_birth, by_root, in_sets, of_persons, births, evals, known, Rises, Fits, FitsPerson, FitsHistory, halters, Ruled}
-use Rattle.cl_ticket.specs.Steps.{end_view, tickets_of}
+use Rattle.cl_ticket.specs.Rule.{if_eval, name_of, depth_of, by_birth, by_root, in_sets, Rises, FitsPerson, FitsHistory, halters, Ruled}
+use Rattle.cl_ticket.specs.Steps.{birth, end_view, tickets_of}
 use Rattle.cl_ticket.specs.Tokens.{Place, Process, everyone, with_gathered}
 use Rattle.cl_ticket.specs.Starts.{start_of}
 use Rattle.cl_ticket.specs.Points.{is, times, names_of, Differ, SameNumbers, AreBelow, OwnActs, HaveOwners, IsMadeBy, FullMarks, IsHalter, DrawnOnce}
@@ -141,6 +141,26 @@ module _ (n : ℕ) (people : List Person) (sets : List PlainHistory) (r : Ruled 
       let m = weigh-map (is x) (λ (p : Person). name_of p.origin) people in
       omega arith)
 
+-- who did the eval of a weight that is found
+done-by : (people : List Person) (p : Person) (b : Birth) (q : Person) (a : PlainAct) (i k : ℕ) → p.origin ≡ Born b → get_elem? people i ≡ some q → get_elem? q.acts k ≡ some a → is_eval a.what ≡ true → b ≡ birth a (suc (depth_of q.origin)) → IsMadeBy people p
+done-by people p b q a i k is_born at at' eval same = (
+  b,
+  q,
+  is_born,
+  ap start_of is_born,
+  at-contains people i q at,
+  subst (Contains q.acts) (ap (λ (c : Birth). c.act) (sym same)) (at-contains q.acts k a at'),
+  ap (λ (c : Birth). is_eval c.act.what) same ∙ eval,
+  ap (λ (c : Birth). c.depth) same,
+)
+
+made-by : (people : List Person) (p : Person) (b : Birth) → p.origin ≡ Born b → 1 ≤ weigh (λ (q : Person). weigh (λ (a : PlainAct). if_eval (is_eval a.what) (match_weight birth_coded b (birth a (suc (depth_of q.origin))))) q.acts) people → IsMadeBy people p
+made-by people p b is_born some_eval =
+    let q = some-weighs (λ (q : Person). weigh (λ (a : PlainAct). if_eval (is_eval a.what) (match_weight birth_coded b (birth a (suc (depth_of q.origin))))) q.acts) people some_eval in
+    let a = some-weighs (λ (a : PlainAct). if_eval (is_eval a.what) (match_weight birth_coded b (birth a (suc (depth_of q.1.origin))))) q.1.acts q.3 in
+    let f = flag-some (is_eval a.1.what) (match_weight birth_coded b (birth a.1 (suc (depth_of q.1.origin)))) a.3 in
+    done-by people p b q.1 a.1 q.0 a.0 is_born q.2 a.2 f.0 (match-is birth_coded b (birth a.1 (suc (depth_of q.1.origin))) f.1)
+
 module _ (n m : ℕ) (main : Person) (gathered : List Person) (sets : List PlainHistory) (r : Ruled n (end_view (main ∷ gathered) sets ∷ [])) (root : main.origin ≡ Root m) where
   no-root : Each (λ (p : Person). by_root (λ k. 1) p.origin ≡ 0) gathered
   no-root = let one : by_root (λ k. 1) main.origin ≡ 1 = ap (by_root (λ k. 1)) root in let t = r.root in weigh-none (λ (p : Person). by_root (λ k. 1) p.origin) gathered (omega arith)
@@ -171,30 +191,17 @@ module _ (n m : ℕ) (main : Person) (gathered : List Person) (sets : List Plain
       zeros [] = refl
       zeros (p ∷ more) = omega (arith, zeros more)
 
+  by-origin : (i : ℕ) (p : Person) → get_elem? gathered i ≡ some p → (o : Origin) → p.origin ≡ o → by_root (λ k. 1) p.origin ≡ 0 → IsMadeBy (main ∷ gathered) p
+  by-origin i p at (Root k) is_root none = absurd (let one : by_root (λ k. 1) p.origin ≡ 1 = ap (by_root (λ k. 1)) is_root in omega arith)
+  by-origin i p at (Born b) is_born none =
+      let h : Birth → ℕ = match_weight birth_coded b in
+      let one : by_birth h p.origin ≡ 1 = ap (by_birth h) is_born ∙ match-self birth_coded b in
+      let here = weigh-at (λ (q : Person). by_birth h q.origin) (main ∷ gathered) (suc i) p at in
+      let t = r.born h in
+      made-by (main ∷ gathered) p b is_born (omega arith)
+
   pub told-starts : Each (IsMadeBy (main ∷ gathered)) gathered
   told-starts = each-by (IsMadeBy (main ∷ gathered)) gathered (λ i p at. by-origin i p at p.origin refl (each-at (λ (q : Person). by_root (λ k. 1) q.origin ≡ 0) gathered i p at no-root))
-    where
-      by-origin : (i : ℕ) (p : Person) → get_elem? gathered i ≡ some p → (o : Origin) → p.origin ≡ o → by_root (λ k. 1) p.origin ≡ 0 → IsMadeBy (main ∷ gathered) p
-      by-origin i p at (Root k) is_root none = absurd (let one : by_root (λ k. 1) p.origin ≡ 1 = ap (by_root (λ k. 1)) is_root in omega arith)
-      by-origin i p at (Born b) is_born none =
-          let h : Birth → ℕ = match_weight birth_coded b in
-          let one : by_birth h p.origin ≡ 1 = ap (by_birth h) is_born ∙ match-self birth_coded b in
-          let here = weigh-at (λ (q : Person). by_birth h q.origin) (main ∷ gathered) (suc i) p at in
-          let t = r.born h in
-          let q = some-weighs (λ (q : Person). weigh (λ (a : PlainAct). if_eval (is_eval a.what) (h record { act = a; depth = suc (depth_of q.origin) })) q.acts) (main ∷ gathered) (omega arith) in
-          let a = some-weighs (λ (a : PlainAct). if_eval (is_eval a.what) (h record { act = a; depth = suc (depth_of q.1.origin) })) q.1.acts q.3 in
-          let f = flag-some (is_eval a.1.what) (h record { act = a.1; depth = suc (depth_of q.1.origin) }) a.3 in
-          let same : b ≡ record { act = a.1; depth = suc (depth_of q.1.origin) } = match-is birth_coded b record { act = a.1; depth = suc (depth_of q.1.origin) } f.1 in
-          let act : b.act ≡ a.1 = ap (λ (c : Birth). c.act) same in (
-            b,
-            q.1,
-            is_born,
-            ap start_of is_born,
-            at-contains (main ∷ gathered) q.0 q.1 q.2,
-            subst (Contains q.1.acts) (sym act) (at-contains q.1.acts a.0 a.1 a.2),
-            ap (λ (c : PlainAct). is_eval c.what) act ∙ f.0,
-            ap (λ (c : Birth). c.depth) same,
-          )
 
 -- what is known of full sets
 pub told-full : (history : ℕ → List PlainAct) (people : List Person) (sets : List PlainHistory) → FitsHistory history (end_view people sets) → FullMarks sets people

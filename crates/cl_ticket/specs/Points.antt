@@ -1,8 +1,8 @@
 -- What a closed table tells of all processes and all sets, in plain words. (This project.)
-use Rattle.std.specs.Prelude.{◌≡◌, ℕ, suc, ◌+◌, ◌<◌, ◌≤◌, eqb, nat_lt, if◌then◌else◌, Bool, true, List, map, Contains}
+use Rattle.std.specs.Prelude.{◌≡◌, ℕ, suc, ◌+◌, ◌<◌, ◌≤◌, eqb, nat_lt, if◌then◌else◌, true, List, map, Contains}
 use mathlib.Core.List.{IsPrefix}
 use Rattle.cl_value.specs.Plain.{PlainAct, PlainHistory, Lives}
-use Rattle.cl_value.specs.Acts.{is_eval, acts_of, names_made}
+use Rattle.cl_value.specs.Acts.{is_eval, acts_of}
 use Rattle.cl_value.specs.Tickets.{by_ticket}
 use Rattle.cl_ticket.specs.Weights.{weigh, Each}
 use Rattle.cl_ticket.specs.Persons.{Birth, Mark, Born, Person}

@@ -1,10 +1,10 @@
 -- What contracts see in the tokens of a run, as plain data. (This project.)
-use Rattle.std.specs.Prelude.{◌≡◌, refl, ℕ, zero, suc, ◌<◌, ◌≤◌, Bool, true, false, List, [], ◌∷◌, ◌++◌, Option, Some, None}
+use Rattle.std.specs.Prelude.{◌≡◌, refl, ℕ, zero, suc, Bool, true, false, List, [], ◌∷◌, ◌++◌, Option, Some, None}
 use Rattle.std.specs.Coded.{Coded, code_by, coded×, coded_list, coded_option}
 use Rattle.atomic_table.specs.Seated.{TableId}
 use Rattle.cl_value.specs.Plain.{PlainAct, PlainHistory}
 use Rattle.cl_value.specs.Acts.{is_eval}
-use Rattle.cl_ticket.specs.Persons.{Birth, Root, Born, Mark, Person}
+use Rattle.cl_ticket.specs.Persons.{Birth, Root, Born, Person}
 use Rattle.cl_ticket.specs.Codes.{history_coded, person_coded, birth_coded}
 use Rattle.cl_ticket.specs.Rule.{depth_of}
 use Rattle.cl_ticket.specs.Steps.{plain_history, person, with_act, with_mark, with_halt, with_sight, unborn_after, birth, set_in, person_in, others_in}

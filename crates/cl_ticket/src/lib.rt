@@ -9,6 +9,9 @@
 #![tactic(auto)]
 
 ghost use Rattle.std.specs.Prelude.{◌≡◌, ◌+◌, ◌-◌, ◌<◌, ◌≤◌, ◌++◌, ℕ, List, [], ◌∷◌, length, map, All, IfOk, None, Some, if◌then◌else◌, vec_len, vec_capacity};
+ghost use Rattle.std.specs.Slots.{slots_items, slots_len, IsFull};
+ghost use lib.ListN.{get_elem?};
+ghost use mathlib.Core.Option.{some};
 ghost use Rattle.cl_value.specs.Plain.{Lives, Main};
 ghost use Rattle.cl_value.specs.Acts.{is_eval, names_made};
 ghost use Rattle.cl_value.specs.Tickets.{by_ticket, NumberedFrom};
@@ -324,6 +327,18 @@ fn take_all<K: Plan>(tickets: &Tickets<K>, main: &mut TicketSeat, sets: Vec<SetS
     }
 }
 
+// What stands in the two words.
+fn words_of(table: &atomic_table::Closed<(), Global>) -> Closed
+    requires two { (slots_len table.now.words ≡ 2) × IsFull table.now.words }
+    ensures next { get_elem? (slots_items table.now.words) 0 ≡ some result.next }
+    ensures halt { get_elem? (slots_items table.now.words) 1 ≡ some result.halt }
+{
+    Closed {
+        next: table.word(0),
+        halt: table.word(1),
+    }
+}
+
 /// Ends the run: process 0 hands in all sets, and has gathered as many processes as evals were done. Then no
 /// other token stands, so what is told holds of the processes and the sets that are handed in alone. Takes no
 /// memory.
@@ -353,9 +368,8 @@ pub fn close<K: Plan>(tickets: Tickets<K>, sets: Vec<SetSeat<K>>, main: ProcSeat
     } = main;
     take_all(&tickets, &mut closer, sets);
     let Tickets { table, run: _ } = tickets;
-    let closed = table.close_with(closer);
-    let next = closed.word(0);
-    let halt = closed.word(1);
-    closed.free();
-    Closed { next, halt }
+    let table = table.close_with(closer);
+    let closed = words_of(&table);
+    table.free();
+    closed
 }

@@ -1,7 +1,6 @@
 use Rattle.std.proofs.Common.{arith, ap, map, length, ◌∙◌, ◌≡◌, ◌-◌, List, subst, refl}
 use Rattle.std.proofs.lemmas.List.{length-map}
 use Rattle.std.specs.Slots.{slots_items}
-use Rattle.cl_value.specs.Plain.{PlainHistory}
 use Rattle.cl_ticket.specs.Persons.{Person}
 use Rattle.cl_ticket.specs.Steps.{end_view, root_sets}
 use Rattle.cl_ticket.specs.Tokens.{Place, everyone}
@@ -10,7 +9,7 @@ use Rattle.cl_ticket.proofs.Told.{told-tickets, told-names, told-acts, told-owne
 use Rattle.cl_ticket.proofs.close.Goals as goal
 
 pub free-requires : goal.free-requires
-free-requires g c = λ k lt. let n = c.close_with-closed.ensures.counts.1 in let z = c.args.tickets.slots in absurd (omega arith)
+free-requires g c = λ k lt. let n = c.close_with-table.ensures.counts.1 in let z = c.args.tickets.slots in absurd (omega arith)
 
 pub returns : goal.returns
 returns g c =
@@ -19,14 +18,14 @@ returns g c =
     let sets = map (λ s. s.history) c.args.sets.items in
     let m = length g.K.Plan.shapes in
     let seat = c.take_all.new.main in
-    let words = slots_items c.close_with-closed.result.words in
-    let slots = slots_items c.close_with-closed.result.slots in
+    let words = slots_items c.close_with-table.result.words in
+    let slots = slots_items c.close_with-table.result.slots in
     let same : c.main.inside.seat.me.0.persons ≡ people = ap (λ v. v.persons) c.main.invariant.view ∙ ap everyone c.main.view_is in
     let view : seat.me.0 ≡ end_view people sets = ap (λ w. w.0) c.take_all.ensures.view ∙ ap (λ (ps : List Person). end_view ps sets) same in
     let root = subst (λ (ps : List Person). root_sets ps m ≡ m) same c.main.invariant.root in
-    let final = c.close_with-closed.ensures.values.2 in
-    let all = closed_as words slots seat.id m c.word-next.result c.word-halt.result seat.me.0 people sets final c.word-next.ensures c.word-halt.ensures view refl c.requires.main root (length-map c.args.sets.items (λ (s : Place). s.history) ∙ c.requires.sets) c.requires.gathered in
-    let n = c.word-next.result - 1 in
+    let final = c.close_with-table.ensures.values.2 in
+    let all = closed_as words slots seat.id m c.words_of-closed.result.next c.words_of-closed.result.halt seat.me.0 people sets final c.words_of-closed.ensures.next c.words_of-closed.ensures.halt view refl c.requires.main root (length-map c.args.sets.items (λ (s : Place). s.history) ∙ c.requires.sets) c.requires.gathered in
+    let n = c.words_of-closed.result.next - 1 in
     let r = all.0.1 in
     let some = all.0.0 in
     let tickets = told-tickets n people sets r in
@@ -44,6 +43,6 @@ returns g c =
       starts = told-starts n m main.person main.gathered sets r all.2;
       full = told-full marks.0 people sets marks.1;
       halt = all.1.0;
-      halter = told-halter c.word-halt.result people sets all.1.1;
+      halter = told-halter c.words_of-closed.result.halt people sets all.1.1;
       ruled = r;
     }
