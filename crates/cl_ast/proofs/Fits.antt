@@ -2,7 +2,7 @@
 use Rattle.std.proofs.Common.{◌≡◌, true, refl}
 use Rattle.cl_rules.specs.Fit.{fits, symbol_fits, Fits}
 use Rattle.cl_ast.specs.Grammar.{unit}
-use Rattle.cl_ast.specs.Grammar.{index, arguments, fields, block, place, primary, unary, product, sum, order, equality, conjunction, expr, field, simple, plain, statement, given, declarator, variables, params, item}
+use Rattle.cl_ast.specs.Grammar.{index, arguments, fields, block, place, primary, unary, product, sum, order, equality, conjunction, expr, spanned, field, simple, plain, statement, given, declarator, variables, params, item}
 use Rattle.cl_ast.specs.Tables.{bounds}
 
 index_fits : symbol_fits bounds index ≡ true
@@ -43,6 +43,9 @@ conjunction_fits = refl
 
 expr_fits : symbol_fits bounds expr ≡ true
 expr_fits = refl
+
+spanned_fits : symbol_fits bounds spanned ≡ true
+spanned_fits = refl
 
 field_fits : symbol_fits bounds field ≡ true
 field_fits = refl
@@ -85,6 +88,7 @@ grammar_fits order = order_fits
 grammar_fits equality = equality_fits
 grammar_fits conjunction = conjunction_fits
 grammar_fits expr = expr_fits
+grammar_fits spanned = spanned_fits
 grammar_fits field = field_fits
 grammar_fits simple = simple_fits
 grammar_fits plain = plain_fits

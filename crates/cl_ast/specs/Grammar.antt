@@ -24,6 +24,7 @@ pub data Part : Type 0 where
   equality : Part
   conjunction : Part
   expr : Part
+  spanned : Part
   field : Part
   simple : Part
   plain : Part
@@ -114,6 +115,7 @@ rules order = chain (Symbol sum) (mark_of marks.Less (marks.Greater ∷ marks.Le
 rules equality = chain (Symbol order) (mark_of marks.Equal (marks.NotEqual ∷ []))
 rules conjunction = chain (Symbol equality) (mark marks.And)
 rules expr = chain (Symbol conjunction) (mark marks.Or)
+rules spanned = Symbol expr
 rules field = text ∣ mark marks.Question ⨾ Symbol place ∣ Symbol expr
 rules simple =
     name ⨾ (Symbol arguments
@@ -121,7 +123,7 @@ rules simple =
     ∣ mark_of marks.Increment (marks.Decrement ∷ [])))
     ∣ mark_of marks.Increment (marks.Decrement ∷ []) ⨾ Symbol place
     ∣ word_of words.Out (words.In ∷ words.Rd ∷ words.Inp ∷ words.Rdp ∷ words.Eval ∷ []) ⨾ Symbol fields
-    ∣ word words.Printf ⨾ in_brackets (text ⨾ Many (mark marks.Comma ⨾ Symbol expr))
+    ∣ word words.Printf ⨾ in_brackets (text ⨾ Many (mark marks.Comma ⨾ Symbol spanned))
 rules plain =
     mark marks.Semicolon
     ∣ Symbol simple ⨾ mark marks.Semicolon
@@ -132,7 +134,7 @@ rules plain =
     ∣ word_of words.Break (words.Continue ∷ []) ⨾ mark marks.Semicolon
     ∣ word words.Return ⨾ maybe (Symbol expr) ⨾ mark marks.Semicolon
 rules statement = Symbol block ∣ Symbol plain
-rules given = in_squares size ∣ mark marks.Assign ⨾ Symbol expr
+rules given = in_squares size ∣ mark marks.Assign ⨾ Symbol spanned
 rules declarator = name ⨾ maybe (Symbol given)
 rules variables = type_word ⨾ list_of (Symbol declarator) ⨾ mark marks.Semicolon
 rules params = in_brackets (maybe (word words.Void ∣ list_of (type_word ⨾ name)))

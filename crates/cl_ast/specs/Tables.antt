@@ -7,7 +7,7 @@ use Rattle.cl_ast.specs.declared.mark.Mark.TheVariants as marks
 use Rattle.cl_ast.specs.Plain.{PlainToken}
 use Rattle.cl_ast.specs.Classes.{class_of, word_classes, mark_classes}
 use Rattle.cl_ast.specs.Grammar.{Part, rules}
-use Rattle.cl_ast.specs.Grammar.{index, arguments, fields, block, place, primary, unary, product, sum, order, equality, conjunction, expr, field, simple, plain, statement, given, declarator, variables, params, item}
+use Rattle.cl_ast.specs.Grammar.{index, arguments, fields, block, place, primary, unary, product, sum, order, equality, conjunction, expr, spanned, field, simple, plain, statement, given, declarator, variables, params, item}
 
 abbrev pub primary_firsts : List ℕ
 primary_firsts = 0 ∷ 1 ∷ 2 ∷ 3 ∷ (word_classes (words.Inp ∷ words.Rdp ∷ []) ++ mark_classes (marks.OpenBracket ∷ []))
@@ -38,6 +38,7 @@ firsts order = expr_firsts
 firsts equality = expr_firsts
 firsts conjunction = expr_firsts
 firsts expr = expr_firsts
+firsts spanned = expr_firsts
 firsts field = 4 ∷ (mark_classes (marks.Question ∷ []) ++ expr_firsts)
 firsts simple = simple_firsts
 firsts plain = plain_firsts
@@ -83,6 +84,7 @@ lasts order = order_lasts
 lasts equality = equality_lasts
 lasts conjunction = conjunction_lasts
 lasts expr = expr_lasts
+lasts spanned = expr_lasts
 lasts field = expr_lasts
 lasts simple = expr_lasts
 lasts plain = word_classes (words.Else ∷ [])
@@ -109,18 +111,19 @@ rank order = 5
 rank equality = 6
 rank conjunction = 7
 rank expr = 8
+rank spanned = 9
 rank field = 9
 rank simple = 9
-rank given = 9
-rank declarator = 10
-rank variables = 11
+rank given = 10
+rank declarator = 11
+rank variables = 12
 rank plain = 10
 rank statement = 11
-rank item = 12
+rank item = 13
 
 -- the language, and what is computed of it
 abbrev pub language : Language PlainToken Part
-language = record { class_of = class_of; rules = rules; firsts = firsts; height = 13 }
+language = record { class_of = class_of; rules = rules; firsts = firsts; height = 14 }
 
 abbrev pub bounds : Bounds PlainToken Part
 bounds = record { language = language; lasts = lasts; rank = rank }

@@ -19,6 +19,7 @@ use Rattle.cl_ast.specs.declared.tree.Literal.{Literal}
 use Rattle.cl_ast.specs.declared.tree.Text.{Text}
 use Rattle.cl_ast.specs.declared.tree.Expr.{Expr}
 use Rattle.cl_ast.specs.declared.tree.Expr.TheVariants as exprs
+use Rattle.cl_ast.specs.declared.tree.Spanned.{Spanned}
 use Rattle.cl_ast.specs.declared.tree.Place.{Place, roll-Place}
 use Rattle.cl_ast.specs.declared.tree.Call.{Call, roll-Call}
 use Rattle.cl_ast.specs.declared.tree.Operation.{Operation, roll-Operation}
@@ -202,6 +203,10 @@ to_chain span x (y ∷ ys) = exprs.Chain (roll-Chain (record { first = x; others
 abbrev pub to_level : List Token → Expr × List (Token × Expr) → Expr
 to_level ts x = to_chain (span_of ts) x.0 (to_links x.1)
 
+-- an expression with the place of its tokens
+abbrev pub to_spanned : List Token → Expr → Spanned
+to_spanned ts x = record { expr = x; span = span_of ts }
+
 abbrev pub to_field : List Token → Token ⊎ ((Token × Place) ⊎ Expr) → Field
 to_field ts (inl t) = field_forms.Text (to_text t)
 to_field ts (inr (inl x)) = field_forms.Formal (roll-Formal (record { target = x.1; span = span_of ts }))
@@ -235,7 +240,7 @@ to_started ts t (inl xs) = stmts.Call (to_call ts t xs)
 to_started ts t (inr x) = to_assign ts (roll-Place (record { name = to_name t; index = index_value x.0; span = place_span t x.0 })) (to_change x.1)
 
 abbrev pub to_simple : List Token → (Token × (List Expr ⊎ ((Index ⊎ Unit {0}) × ((Token × Expr) ⊎ Token))))
-    ⊎ ((Token × Place) ⊎ ((Token × List Field) ⊎ (Token × (Token × ((Token × List (Token × Expr)) × Token))))) → Stmt
+    ⊎ ((Token × Place) ⊎ ((Token × List Field) ⊎ (Token × (Token × ((Token × List (Token × Spanned)) × Token))))) → Stmt
 to_simple ts (inl x) = to_started ts x.0 x.1
 to_simple ts (inr (inl x)) = to_assign ts x.1 (to_step (is_decrement x.0.kind))
 to_simple ts (inr (inr (inl x))) = stmts.Operation (to_operation ts x.0 x.1)
@@ -303,7 +308,7 @@ abbrev pub kind_size : Token → PlainKind → Size
 kind_size t (kinds.Name bytes) = sizes.Name (to_name t)
 kind_size t _ = sizes.Number (to_literal t)
 
-abbrev pub to_given : List Token → (Token × (Token × Token)) ⊎ (Token × Expr) → Given
+abbrev pub to_given : List Token → (Token × (Token × Token)) ⊎ (Token × Spanned) → Given
 to_given ts (inl x) = (forms.Array (kind_size x.1.0 x.1.0.kind), (span_of ts).end)
 to_given ts (inr x) = (forms.Value x.1, (span_of ts).end)
 
@@ -364,6 +369,7 @@ tree_of parts.order = Expr
 tree_of parts.equality = Expr
 tree_of parts.conjunction = Expr
 tree_of parts.expr = Expr
+tree_of parts.spanned = Spanned
 tree_of parts.field = Field
 tree_of parts.simple = Stmt
 tree_of parts.plain = Stmt
@@ -389,6 +395,7 @@ build parts.order ts x = to_level ts x
 build parts.equality ts x = to_level ts x
 build parts.conjunction ts x = to_level ts x
 build parts.expr ts x = to_level ts x
+build parts.spanned ts x = to_spanned ts x
 build parts.field ts x = to_field ts x
 build parts.simple ts x = to_simple ts x
 build parts.plain ts x = to_plain ts x

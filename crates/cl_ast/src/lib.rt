@@ -23,11 +23,11 @@ pub use parse_end::ParseEnd;
 pub use span::Span;
 pub use statement::{
     Assign, Block, Change, Declarator, Define, Do, For, Form, Function, If, Item, Parameter, Print,
-    Return, Size, Stmt, Variables, While,
+    Return, Size, Stmt, Unit, Variables, While,
 };
 pub use token::{Token, TokenKind};
 pub use tree::{
     Call, Chain, Constant, Expr, Field, Formal, Link, Literal, Name, Operation, Operator, Place,
-    Prefix, Text, TypeName, Verb,
+    Prefix, Spanned, Text, TypeName, Verb,
 };
 pub use word::{RESERVED, WORDS, Word};

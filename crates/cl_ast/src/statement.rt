@@ -1,5 +1,5 @@
 use crate::Span;
-use crate::tree::{Call, Expr, Literal, Name, Operation, Place, Text, TypeName};
+use crate::tree::{Call, Expr, Literal, Name, Operation, Place, Spanned, Text, TypeName};
 use sqlite_items::{Boxed, Items};
 
 /// A statement. (ISO/IEC 9899:1999, 6.8; the operations: Gelernter 1985.)
@@ -76,7 +76,7 @@ pub enum Form {
     /// It is an array of this size.
     Array(Size),
     /// It has this initial value.
-    Value(Expr),
+    Value(Spanned),
 }
 
 /// The size of an array.
@@ -122,7 +122,7 @@ pub struct Print {
     /// The format.
     pub format: Text,
     /// The arguments, in order.
-    pub arguments: Items<Expr>,
+    pub arguments: Items<Spanned>,
     /// Its place.
     pub span: Span,
 }
@@ -188,6 +188,13 @@ pub struct Return {
     pub value: Option<Expr>,
     /// Its place.
     pub span: Span,
+}
+
+/// A whole source. (ISO/IEC 9899:1999, 6.9.)
+#[derive(Drop)]
+pub struct Unit {
+    /// Its items, in order.
+    pub items: Items<Item>,
 }
 
 /// A part of a source outside all others. (ISO/IEC 9899:1999, 6.9.)

@@ -118,6 +118,15 @@ pub enum Expr {
     Not(Prefix),
 }
 
+/// An expression with the place of all its tokens, brackets round it too.
+#[derive(Drop)]
+pub struct Spanned {
+    /// The expression.
+    pub expr: Expr,
+    /// The place, from its first token on.
+    pub span: Span,
+}
+
 /// A name, with an index where it is an element of an array.
 #[cycle(tree)]
 #[derive(Drop)]

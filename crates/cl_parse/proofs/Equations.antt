@@ -29,11 +29,11 @@ use Rattle.cl_ast.specs.Tables.{language, bounds}
 use Rattle.cl_ast.specs.Trees.{Index, meaning, to_started, to_typed, to_item, span_of, token_span, kind_change, kind_size, kind_type, is_decrement, behind_marks, to_name, to_literal, to_text, to_maybe, to_call, to_operation, to_step, to_change, to_assign, to_simple, to_body, to_else, to_leave, to_inner, to_given, to_declarator, to_variables, to_parameter, to_params, to_function, to_result, is_there, index_value, place_span}
 use Rattle.cl_ast.proofs.Fits.{grammar_fits}
 use Rattle.cl_parse_expr.specs.Steps.{begins_of, token_of, reading}
-use Rattle.cl_parse_expr.specs.Readings.{refused, arguments_reading}
+use Rattle.cl_parse_expr.specs.Readings.{refused}
 use Rattle.cl_parse.specs.Classes.{classes_of}
 use Rattle.cl_parse.specs.declared.class.Class.TheVariants as classes
-use Rattle.cl_parse.specs.Rows.{change_row, changed_row, formatted_row, otherwise_row, line_row, head_row, inner_row, next_declarator_row, parameter_row, next_parameter_row, parameters_row, function_row, shared_row}
-use Rattle.cl_parse.specs.Readings.{is_continue, change_reading, changed_reading, behind_name_reading, started_reading, stepped_reading, operation_reading, print_reading, formatted_reading, condition_reading, nested_reading, body_reading, otherwise_reading, maybe_simple_reading, maybe_expr_reading, empty_reading, line_reading, if_reading, while_reading, do_reading, head_reading, for_reading, leave_reading, return_reading, to_inner_one, inner_reading, inners_reading, sized_reading, valued_reading, declared_reading, next_declarator_reading, declarators_reading, parameter_reading, next_parameter_reading, next_parameters, more_parameters_reading, parameters_reading, sign_reading, define_reading, behind_typed_reading, typed_reading, result_reading, untyped_reading, items_reading}
+use Rattle.cl_parse.specs.Rows.{change_row, changed_row, next_spanned_row, formatted_row, otherwise_row, line_row, head_row, inner_row, next_declarator_row, parameter_row, next_parameter_row, parameters_row, function_row, shared_row}
+use Rattle.cl_parse.specs.Readings.{is_continue, change_reading, changed_reading, behind_name_reading, started_reading, stepped_reading, operation_reading, print_reading, next_spanned_reading, more_spanned_reading, formatted_reading, condition_reading, nested_reading, body_reading, otherwise_reading, maybe_simple_reading, maybe_expr_reading, empty_reading, line_reading, if_reading, while_reading, do_reading, head_reading, for_reading, leave_reading, return_reading, to_inner_one, inner_reading, inners_reading, sized_reading, valued_reading, declared_reading, next_declarator_reading, declarators_reading, parameter_reading, next_parameter_reading, next_parameters, more_parameters_reading, parameters_reading, sign_reading, define_reading, behind_typed_reading, typed_reading, result_reading, untyped_reading, items_reading}
 use Rattle.cl_parse.proofs.Sights.{Sight, raw, token, both, seen, sights, choice, in_rows, part_reads, part_rows, renamed_steps, deeper, too_deep, list_reads}
 
 -- both sides of a choice
@@ -101,21 +101,38 @@ print_reads n ts =
     sights (both token (seen (λ x. (to_text x.1.0.0, behind_marks x.1.0.1)) formatted_reading (λ m us. refl))) n ts
     (λ x us. Ok (stmts.Print (record { format = x.1.0; arguments = x.1.1; span = span_of (before_rest ts us) }), us))
 
+pub spanned_reads : (n : ℕ) (ts : List PlainToken) →
+    reading parts.spanned n ts ≡ onwards (reading parts.expr n ts) (λ x us. Ok (record { expr = x; span = span_of (before_rest ts us) }, us))
+unfolding reading
+spanned_reads n ts = part_reads parts.spanned n ts
+
+pub next_spanned_reads : (n : ℕ) (ts : List PlainToken) → next_spanned_reading n ts ≡ onwards (token_of (mark_class marks.Comma ∷ []) ts) (λ t us. reading parts.spanned n us)
+unfolding next_spanned_reading reading
+next_spanned_reads n ts =
+    renamed_steps (λ x. x.1) (values language meaning n next_spanned_row ts) ∙ sights {r = next_spanned_row} (both token raw) n ts (λ x us. Ok (x.1, us))
+    ∙ onwards_same (token_of (mark_class marks.Comma ∷ []) ts) (λ t us. onwards (reading parts.spanned n us) (λ x vs. Ok (x, vs))) (λ t us. reading parts.spanned n us)
+    (λ t us. onwards_ok (reading parts.spanned n us))
+
+pub more_spanned_reads : (n : ℕ) (ts : List PlainToken) →
+    more_spanned_reading n ts ≡ cond (begins_of (mark_class marks.Comma ∷ []) ts) (onwards (next_spanned_reading n ts) (λ x us. onwards (more_spanned_reading n us) (λ xs vs. Ok (x ∷ xs, vs)))) (Ok ([], ts))
+unfolding more_spanned_reading next_spanned_reading
+more_spanned_reads n ts = list_reads next_spanned_row refl (λ x. x.1) behind_marks refl (λ x xs. refl) n ts
+
 pub formatted_reads : (n : ℕ) (ts : List PlainToken) → 0 < n →
     formatted_reading n ts ≡ onwards (token_of (mark_class marks.OpenBracket ∷ []) ts)
     (λ t us. onwards (token_of (classes_of classes.Text) us)
-    (λ u vs. onwards (arguments_reading (n - 1) vs) (λ xs ws. onwards (token_of (mark_class marks.CloseBracket ∷ []) ws) (λ v zs. Ok ((to_text u, xs), zs)))))
-unfolding formatted_reading arguments_reading
+    (λ u vs. onwards (more_spanned_reading (n - 1) vs) (λ xs ws. onwards (token_of (mark_class marks.CloseBracket ∷ []) ws) (λ v zs. Ok ((to_text u, xs), zs)))))
+unfolding formatted_reading more_spanned_reading
 formatted_reads n ts some =
     renamed_steps (λ x. (to_text x.1.0.0, behind_marks x.1.0.1)) (values language meaning n formatted_row ts)
-    ∙ deeper (mark marks.OpenBracket ⨾ (text ⨾ Many (mark marks.Comma ⨾ Symbol parts.expr)) ⨾ mark marks.CloseBracket) n ts (λ x us. Ok ((to_text x.1.0.0, behind_marks x.1.0.1), us)) some
-    ∙ sights (both token (both (both token (seen behind_marks arguments_reading (λ m us. refl))) token)) (n - 1) ts (λ x us. Ok ((to_text x.1.0.0, x.1.0.1), us))
+    ∙ deeper (mark marks.OpenBracket ⨾ (text ⨾ Many next_spanned_row) ⨾ mark marks.CloseBracket) n ts (λ x us. Ok ((to_text x.1.0.0, behind_marks x.1.0.1), us)) some
+    ∙ sights (both token (both (both token (seen behind_marks more_spanned_reading (λ m us. refl))) token)) (n - 1) ts (λ x us. Ok ((to_text x.1.0.0, x.1.0.1), us))
 
 pub formatted_refused : (ts : List PlainToken) → formatted_reading 0 ts ≡ refused (mark_class marks.OpenBracket ∷ []) ts
 unfolding formatted_reading
 formatted_refused ts =
     renamed_steps (λ x. (to_text x.1.0.0, behind_marks x.1.0.1)) (values language meaning 0 formatted_row ts)
-    ∙ too_deep (mark marks.OpenBracket ⨾ (text ⨾ Many (mark marks.Comma ⨾ Symbol parts.expr)) ⨾ mark marks.CloseBracket) ts (λ x us. Ok ((to_text x.1.0.0, behind_marks x.1.0.1), us))
+    ∙ too_deep (mark marks.OpenBracket ⨾ (text ⨾ Many next_spanned_row) ⨾ mark marks.CloseBracket) ts (λ x us. Ok ((to_text x.1.0.0, behind_marks x.1.0.1), us))
 
 -- ---- statements
 
@@ -351,7 +368,7 @@ unfolding sized_reading
 sized_refused ts = too_deep (mark marks.OpenSquare ⨾ size ⨾ mark marks.CloseSquare) ts (λ x us. Ok (to_given (before_rest ts us) (inl x), us))
 
 pub valued_reads : (n : ℕ) (ts : List PlainToken) →
-    valued_reading n ts ≡ onwards (token_of (mark_class marks.Assign ∷ []) ts) (λ t us. onwards (reading parts.expr n us) (λ x vs. Ok ((forms.Value x, (span_of (before_rest ts vs)).end), vs)))
+    valued_reading n ts ≡ onwards (token_of (mark_class marks.Assign ∷ []) ts) (λ t us. onwards (reading parts.spanned n us) (λ x vs. Ok ((forms.Value x, (span_of (before_rest ts vs)).end), vs)))
 unfolding valued_reading reading
 valued_reads n ts = sights (both token raw) n ts (λ x us. Ok (to_given (before_rest ts us) (inr x), us))
 

@@ -10,6 +10,7 @@ use Rattle.cl_rules.proofs.Bounds.{grammar_laws}
 use Rattle.cl_rules.proofs.Reading.{reads_is}
 use Rattle.cl_ast.specs.declared.mark.Mark.TheVariants as marks
 use Rattle.cl_ast.specs.declared.token.Token.{Token}
+use Rattle.cl_ast.specs.declared.tree.Spanned.{Spanned}
 use Rattle.cl_ast.specs.declared.statement.Stmt.{Stmt}
 use Rattle.cl_ast.specs.declared.statement.Declarator.{Declarator}
 use Rattle.cl_ast.specs.declared.statement.Parameter.{Parameter}
@@ -25,9 +26,9 @@ use Rattle.cl_parse_expr.specs.Steps.{plain_tokens, begins_of, reading}
 use Rattle.cl_parse_expr.proofs.Loops.{turn, last, plain_shorter}
 use Rattle.cl_parse.specs.Classes.{classes_of}
 use Rattle.cl_parse.specs.declared.class.Class.TheVariants as classes
-use Rattle.cl_parse.specs.Rows.{inner_row, next_declarator_row, next_parameter_row}
-use Rattle.cl_parse.specs.Readings.{to_inner_one, inner_reading, inners_reading, next_declarator_reading, declarators_reading, next_parameter_reading, more_parameters_reading, items_reading}
-use Rattle.cl_parse.proofs.Equations.{inners_reads, declarators_reads, more_parameters_reads, items_reads}
+use Rattle.cl_parse.specs.Rows.{inner_row, next_spanned_row, next_declarator_row, next_parameter_row}
+use Rattle.cl_parse.specs.Readings.{to_inner_one, inner_reading, inners_reading, next_spanned_reading, more_spanned_reading, next_declarator_reading, declarators_reading, next_parameter_reading, more_parameters_reading, items_reading}
+use Rattle.cl_parse.proofs.Equations.{inners_reads, more_spanned_reads, declarators_reads, more_parameters_reads, items_reads}
 
 -- ---- a row that isn't empty takes a token
 
@@ -64,6 +65,18 @@ inner_last n = last (begins_of (classes_of classes.Inner)) (inner_reading n) (in
 pub inner_shorter : (n : ℕ) (ts us : List Token) (x : Stmt) → inner_reading n (plain_tokens ts) ≡ Ok (x, plain_tokens us) → length us < length ts
 unfolding inner_reading
 inner_shorter n ts us x e = made_shorter inner_row refl refl to_inner_one n ts us x e
+
+pub spanned_turn : (n : ℕ) (found : List Spanned) (x : Spanned) (ts us : List PlainToken) → begins_of (mark_class marks.Comma ∷ []) ts ≡ true → next_spanned_reading n ts ≡ Ok (x, us) →
+    onwards (more_spanned_reading n ts) (λ xs vs. Ok (found ++ xs, vs)) ≡ onwards (more_spanned_reading n us) (λ xs vs. Ok ((found ++ x ∷ []) ++ xs, vs))
+spanned_turn n = turn (begins_of (mark_class marks.Comma ∷ [])) (next_spanned_reading n) (more_spanned_reading n) (more_spanned_reads n)
+
+pub spanned_last : (n : ℕ) (found : List Spanned) (ts : List PlainToken) → begins_of (mark_class marks.Comma ∷ []) ts ≡ false →
+    onwards (more_spanned_reading n ts) (λ xs vs. Ok (found ++ xs, vs)) ≡ Ok (found, ts)
+spanned_last n = last (begins_of (mark_class marks.Comma ∷ [])) (next_spanned_reading n) (more_spanned_reading n) (more_spanned_reads n)
+
+pub spanned_shorter : (n : ℕ) (ts us : List Token) (x : Spanned) → next_spanned_reading n (plain_tokens ts) ≡ Ok (x, plain_tokens us) → length us < length ts
+unfolding next_spanned_reading
+spanned_shorter n ts us x e = made_shorter next_spanned_row refl refl (λ y. y.1) n ts us x e
 
 pub declarator_turn : (n : ℕ) (found : List Declarator) (x : Declarator) (ts us : List PlainToken) → begins_of (mark_class marks.Comma ∷ []) ts ≡ true → next_declarator_reading n ts ≡ Ok (x, us) →
     onwards (declarators_reading n ts) (λ xs vs. Ok (found ++ xs, vs)) ≡ onwards (declarators_reading n us) (λ xs vs. Ok ((found ++ x ∷ []) ++ xs, vs))

@@ -9,6 +9,7 @@ use Rattle.cl_ast.specs.declared.mark.Mark.TheVariants as marks
 use Rattle.cl_ast.specs.declared.tree.TypeName.{TypeName}
 use Rattle.cl_ast.specs.declared.tree.Text.{Text}
 use Rattle.cl_ast.specs.declared.tree.Expr.{Expr}
+use Rattle.cl_ast.specs.declared.tree.Spanned.{Spanned}
 use Rattle.cl_ast.specs.declared.tree.Place.{Place}
 use Rattle.cl_ast.specs.declared.statement.Stmt.{Stmt}
 use Rattle.cl_ast.specs.declared.statement.Stmt.TheVariants as stmts
@@ -23,7 +24,7 @@ use Rattle.cl_ast.specs.Grammar.{mark, word, body, condition}
 use Rattle.cl_ast.specs.Grammar as parts
 use Rattle.cl_ast.specs.Tables.{language}
 use Rattle.cl_ast.specs.Trees.{Given, meaning, behind_marks, to_maybe, to_text, to_change, to_started, to_assign, to_simple, to_body, to_else, to_plain, to_inner, to_given, to_declarator, to_parameter, to_parameters, to_params, to_result, to_typed, to_item, is_there}
-use Rattle.cl_parse.specs.Rows.{built_of, made_of, change_row, behind_name_row, started_row, stepped_row, operation_row, formatted_row, print_row, otherwise_row, line_row, if_row, while_row, do_row, head_row, for_row, leave_row, return_row, inner_row, sized_row, valued_row, next_declarator_row, parameter_row, next_parameter_row, parameters_row, define_row, behind_typed_row, typed_row, untyped_row}
+use Rattle.cl_parse.specs.Rows.{built_of, made_of, change_row, behind_name_row, started_row, stepped_row, operation_row, next_spanned_row, formatted_row, print_row, otherwise_row, line_row, if_row, while_row, do_row, head_row, for_row, leave_row, return_row, inner_row, sized_row, valued_row, next_declarator_row, parameter_row, next_parameter_row, parameters_row, define_row, behind_typed_row, typed_row, untyped_row}
 
 -- ---- changes, calls, operations and prints
 
@@ -53,8 +54,15 @@ operation_reading n ts = built_of operation_row (λ us x. to_simple us (inr (inr
 unfoldable pub print_reading : ℕ → List PlainToken → Step PlainToken Stmt
 print_reading n ts = built_of print_row (λ us x. to_simple us (inr (inr (inr x)))) n ts
 
+-- an expression behind a comma, with the place of its tokens
+unfoldable pub next_spanned_reading : ℕ → List PlainToken → Step PlainToken Spanned
+next_spanned_reading n ts = made_of next_spanned_row (λ x. x.1) n ts
+
+unfoldable pub more_spanned_reading : ℕ → List PlainToken → Step PlainToken (List Spanned)
+more_spanned_reading n ts = made_of (Many next_spanned_row) behind_marks n ts
+
 -- a format and arguments, in their brackets
-unfoldable pub formatted_reading : ℕ → List PlainToken → Step PlainToken (Text × List Expr)
+unfoldable pub formatted_reading : ℕ → List PlainToken → Step PlainToken (Text × List Spanned)
 formatted_reading n ts = made_of formatted_row (λ x. (to_text x.1.0.0, behind_marks x.1.0.1)) n ts
 
 -- ---- statements

@@ -40,8 +40,11 @@ stepped_row = mark_of marks.Increment (marks.Decrement ∷ []) ⨾ Symbol parts.
 abbrev pub operation_row : Row
 operation_row = word_of words.Out (words.In ∷ words.Rd ∷ words.Inp ∷ words.Rdp ∷ words.Eval ∷ []) ⨾ Symbol parts.fields
 
+abbrev pub next_spanned_row : Row
+next_spanned_row = mark marks.Comma ⨾ Symbol parts.spanned
+
 abbrev pub formatted_row : Row
-formatted_row = in_brackets (text ⨾ Many (mark marks.Comma ⨾ Symbol parts.expr))
+formatted_row = in_brackets (text ⨾ Many next_spanned_row)
 
 abbrev pub print_row : Row
 print_row = word words.Printf ⨾ formatted_row
@@ -84,7 +87,7 @@ abbrev pub sized_row : Row
 sized_row = in_squares size
 
 abbrev pub valued_row : Row
-valued_row = mark marks.Assign ⨾ Symbol parts.expr
+valued_row = mark marks.Assign ⨾ Symbol parts.spanned
 
 abbrev pub next_declarator_row : Row
 next_declarator_row = mark marks.Comma ⨾ Symbol parts.declarator

@@ -11,7 +11,7 @@ use Rattle.cl_ast.specs.Plain.{PlainToken}
 use Rattle.cl_ast.specs.Grammar.{rules, unit}
 use Rattle.cl_ast.specs.Tables.{language, bounds}
 use Rattle.cl_ast.specs.Trees.{meaning}
-use Rattle.cl_parse.specs.declared.unit.Unit as declared
+use Rattle.cl_ast.specs.declared.statement.Unit.{Unit as Source}
 
 -- All of the tokens derive a unit of nesting at most n, and it means these items.
 pub record Derives (n : ℕ) (ts : List PlainToken) (xs : List Item) : Type 0 where
@@ -32,7 +32,7 @@ pub record IsStopped (n : ℕ) (ts : List PlainToken) (kind : Kind) (bad : List 
   pub stops : Stops (grammar bounds unit) n ts kind bad
 
 -- a refusal stands where reading stops, and is of its kind; want of memory says nothing
-abbrev pub IsRefused : ℕ → List PlainToken → Result declared.Unit ParseEnd → Type 0
+abbrev pub IsRefused : ℕ → List PlainToken → Result Source ParseEnd → Type 0
 IsRefused n ts (Ok x) = Unit {0}
 IsRefused n ts (Err (ends.Syntax token)) = IsStopped n ts Syntax (drop token ts)
 IsRefused n ts (Err (ends.TooDeep token)) = IsStopped n ts TooDeep (drop token ts)

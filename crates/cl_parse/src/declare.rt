@@ -7,9 +7,10 @@ ghost use Rattle.cl_parse_expr.specs.Steps.{plain_tokens, reading, Gives};
 ghost use Rattle.cl_parse.specs.Readings.{sized_reading, valued_reading, declared_reading, next_declarator_reading, declarators_reading};
 
 use crate::class::Class;
+use crate::spanned::spanned;
 use crate::tokens::{begins, take};
 use cl_ast::{Declarator, Form, Mark, Size, Span, Token, TokenKind, TypeName, Variables, Word};
-use cl_parse_expr::{Failure, Level, level, literal, name, span};
+use cl_parse_expr::{Failure, literal, name, span};
 use sqlite_items::Items;
 use std::alloc::{AllocError, Global};
 
@@ -84,7 +85,7 @@ fn valued(
     ensures { Gives result (valued_reading nesting (plain_tokens tokens.now)) }
 {
     let (_, rest) = take(Class::Mark(Mark::Assign), tokens)?;
-    let (value, rest) = level(alloc, Level::Expr, nesting, rest)?;
+    let (value, rest) = spanned(alloc, nesting, rest)?;
     Ok(((Form::Value(value), span(tokens, rest).end), rest))
 }
 

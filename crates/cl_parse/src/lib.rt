@@ -7,10 +7,11 @@ mod head;
 mod item;
 mod params;
 mod simple;
+mod spanned;
 mod statement;
 #[cfg(test)]
 mod tests;
 mod tokens;
 mod unit;
 
-pub use unit::{Unit, parse};
+pub use unit::parse;

@@ -6,13 +6,14 @@ ghost use Rattle.cl_parse_expr.specs.Steps.{plain_tokens, reading, Gives};
 ghost use Rattle.cl_parse.specs.Readings.{change_reading, changed_reading, behind_name_reading, started_reading, stepped_reading, operation_reading, print_reading, formatted_reading};
 
 use crate::class::Class;
+use crate::spanned::more_spanned;
 use crate::tokens::{begins, take};
 use cl_ast::{
-    Assign, Call, Change, Expr, Mark, Operation, Place, Print, Span, Stmt, Text, Token, TokenKind,
-    Word,
+    Assign, Call, Change, Expr, Mark, Operation, Place, Print, Span, Spanned, Stmt, Text, Token,
+    TokenKind, Word,
 };
 use cl_parse_expr::{
-    Failure, Level, arguments, fields, index, level, more_arguments, name, place, span, text, verb,
+    Failure, Level, arguments, fields, index, level, name, place, span, text, verb,
 };
 use sqlite_items::{Boxed, Items};
 use std::alloc::Global;
@@ -195,7 +196,7 @@ fn formatted(
     alloc: Global,
     nesting: u8,
     tokens: &[Token],
-) -> Result<((Text, Items<Expr>), &[Token]), Failure<'_>>
+) -> Result<((Text, Items<Spanned>), &[Token]), Failure<'_>>
     ensures { Gives result (formatted_reading nesting (plain_tokens tokens.now)) }
 {
     if nesting == 0 {
@@ -208,7 +209,7 @@ fn formatted(
         let (_, rest) = take(Class::Mark(Mark::OpenBracket), tokens)?;
         let (token, rest) = take(Class::Text, rest)?;
         let format = text(alloc, token)?;
-        let (arguments, rest) = more_arguments(alloc, nesting - 1, Items::new(alloc), rest)?;
+        let (arguments, rest) = more_spanned(alloc, nesting - 1, Items::new(alloc), rest)?;
         let (_, rest) = take(Class::Mark(Mark::CloseBracket), rest)?;
         Ok(((format, arguments), rest))
     }

@@ -3,17 +3,9 @@ ghost use Rattle.cl_parse_expr.specs.Steps.{plain_tokens};
 ghost use Rattle.cl_parse.specs.Unit.{IsTree, IsRefused};
 
 use crate::item::items;
-use cl_ast::{Item, ParseEnd, Token};
+use cl_ast::{ParseEnd, Token, Unit};
 use cl_parse_expr::{Failure, MAX_NESTING};
-use sqlite_items::Items;
 use std::alloc::Global;
-
-/// A whole source. (ISO/IEC 9899:1999, 6.9.)
-#[derive(Drop)]
-pub struct Unit {
-    /// Its items, in order.
-    pub items: Items<Item>,
-}
 
 /// The place of tokens that stand at the end of others.
 fn place(tokens: &[Token], rest: &[Token]) -> u32

@@ -332,7 +332,7 @@ fn argument(alloc: Global, nesting: u8, tokens: &[Token]) -> Result<(Expr, &[Tok
 /// Reads expressions behind commas, as many as there are, and puts them behind those found.
 #[cycle(expressions)]
 #[tactic(auto, using(crate::proofs::Equations::arguments_reads))]
-pub fn more_arguments(
+fn more_arguments(
     alloc: Global,
     nesting: u8,
     found: Items<Expr>,

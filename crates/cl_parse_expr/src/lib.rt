@@ -11,7 +11,7 @@ mod tests;
 mod tokens;
 
 pub use class::Level;
-pub use expr::{arguments, fields, index, level, more_arguments, place};
+pub use expr::{arguments, fields, index, level, place};
 pub use failure::Failure;
 pub use nodes::{literal, name, span, text, verb};
 pub use public::{MAX_NESTING, expression};

@@ -3,6 +3,9 @@
 //! A line has the name of a store and a number. The answer is how many takes had a tuple.
 #![tactic(auto)]
 
+#[cfg(test)]
+mod tests;
+
 ghost use Rattle.std.specs.Prelude.{◌≡◌, ◌<◌, ◌≤◌, List, [], ◌∷◌, All, Some, IsTrue, IfOk, pos};
 ghost use Rattle.cl_value.specs.Room.{Room};
 ghost use Rattle.cl_value.specs.declared.template.Slot.{Slot as Asked};
