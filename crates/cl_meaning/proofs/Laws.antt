@@ -1,11 +1,11 @@
 -- The laws of demands, by induction on what is done: no rule of the language is looked at.
-use Rattle.std.proofs.Common.{◌≡◌, ℕ, Bool, true, false, List, [], ◌∷◌, ◌++◌, refl, ap, sym, ◌∙◌}
+use Rattle.std.proofs.Common.{◌≡◌, ℕ, Bool, true, false, List, [], ◌∷◌, ◌++◌, refl, ap, ◌∙◌}
 use Rattle.std.specs.Prelude.{if◌then◌else◌}
 use Rattle.cl_value.specs.declared.value.Value.{Value}
 use Rattle.cl_value.specs.Plain.{PlainRequest, PlainReply, PlainStart}
 use Rattle.cl_value.specs.Acts.{fits}
 use Rattle.cl_ast.specs.declared.statement.Item.{Item}
-use Rattle.cl_model.specs.Demand.{Outcome, Wants, Finishes, Traps, Misfit, Demand}
+use Rattle.cl_model.specs.Demand.{Wants, Misfit, Demand}
 use Rattle.cl_meaning.specs.Doing.{Steps, Gives, Prints, Asks, Stops, State, demand_of}
 use Rattle.cl_meaning.specs.Process.{begun, process, demands}
 use Rattle.cl_meaning.specs.Laws.{IsFront, IsOver, with_reply, AreDemands}

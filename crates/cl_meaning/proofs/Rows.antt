@@ -1,15 +1,12 @@
 -- Small programs, by computing.
-use Rattle.std.proofs.Common.{◌≡◌, ℕ, List, [], ◌∷◌, ◌++◌, refl}
-use Rattle.std.specs.Prelude.{Bool, true, false, codes, pos, negsuc, Some, None, Option, map, replicate}
-use Rattle.std.specs.Fmt.{signed_decimal}
+use Rattle.std.proofs.Common.{◌≡◌, ℕ, List, [], ◌∷◌, refl}
+use Rattle.std.specs.Prelude.{true, codes, pos, Some, None, Option, map, replicate}
 use denote.Hole.Carrier.{roll}
 use Rattle.cl_value.specs.declared.value.Value.{Value}
 use Rattle.cl_value.specs.declared.value.Value.TheVariants as values
 use Rattle.cl_value.specs.declared.value.FieldType.TheVariants as fields
-use Rattle.cl_value.specs.declared.template.Slot.TheVariants as slots
-use Rattle.cl_value.specs.declared.process.Trap.{Trap}
 use Rattle.cl_value.specs.declared.process.Trap.TheVariants as traps
-use Rattle.cl_value.specs.Plain.{PlainAsk, Out, In, Inp, Eval, PlainReply, Done, Got, Miss, PlainPart, Ready, Call as Calls, PlainStart, Main, Lives}
+use Rattle.cl_value.specs.Plain.{Out, Eval, PlainReply, Done, Got, Miss, Ready, Call as Calls, Main, Lives}
 use Rattle.cl_ast.specs.declared.span.Span.{Span}
 use Rattle.cl_ast.specs.declared.tree.Name.{Name}
 use Rattle.cl_ast.specs.declared.tree.TypeName.{TypeName}
@@ -417,3 +414,13 @@ too_deep_eval = refl
 too_much_output : (demands (main_alone (prints (replicate 65536 97) [] ∷ prints (97 ∷ []) [] ∷ [])) 0 Main []).outcome ≡ Traps traps.OutputLimit
 unfolding computes
 too_much_output = refl
+
+-- while (1) return 3; return 4;
+return_leaves_all : shown (while_so (int 1) (gives (int 3)) ∷ gives (int 4) ∷ []) [] ≡ ends_with (number 3)
+unfolding computes
+return_leaves_all = refl
+
+-- while (0) {} takes no tick
+no_turn_no_tick : demands (main_alone (while_so (int 0) (block []) ∷ [])) 0 Main [] ≡ ends_with (number 0)
+unfolding computes
+no_turn_no_tick = refl

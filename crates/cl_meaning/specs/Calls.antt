@@ -1,5 +1,5 @@
 -- What a call does. (ISO/IEC 9899:1999, 6.5.2.2 and 6.9.1; ticks, depth and cells: this project.)
-use Rattle.std.specs.Prelude.{ℕ, zero, suc, if◌then◌else◌, List, [], ◌∷◌, Option, Some, None, slice_get}
+use Rattle.std.specs.Prelude.{ℕ, zero, suc, if◌then◌else◌, List, [], ◌∷◌, Option, Some, None}
 use Rattle.cl_value.specs.declared.value.Value.{Value}
 use Rattle.cl_value.specs.declared.process.Trap.TheVariants.{CallDepth}
 use Rattle.cl_value.specs.Plain.{PlainPart, Call}

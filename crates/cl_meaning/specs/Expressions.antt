@@ -1,6 +1,6 @@
 -- The value of an expression. A rule is told what its parts do. (ISO/IEC 9899:1999, 6.5; that operands are evaluated from left to right: this
 -- project.)
-use Rattle.std.specs.Prelude.{ℕ, true, false, not, if◌then◌else◌, List, [], ◌∷◌, map, Option, Some, None}
+use Rattle.std.specs.Prelude.{ℕ, true, false, not, if◌then◌else◌, List, map, Option, Some, None}
 use Rattle.cl_value.specs.declared.value.Value.{Value}
 use Rattle.cl_value.specs.declared.value.Value.TheVariants.{Text}
 use Rattle.cl_value.specs.Plain.{PlainPart, Ready}

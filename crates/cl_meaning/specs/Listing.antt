@@ -1,12 +1,11 @@
 -- What stands in a text: its operations and the string literals of its fields, in the order of the text. (This project.)
-use Rattle.std.specs.Prelude.{ℕ, suc, ◌==◌, if◌then◌else◌, Bool, true, false, List, [], ◌∷◌, ◌++◌, map, Option, Some, None}
+use Rattle.std.specs.Prelude.{ℕ, suc, ◌==◌, if◌then◌else◌, Bool, true, false, List, [], ◌∷◌, ◌++◌, Option, Some, None}
 use Rattle.cl_ast.specs.declared.tree.Expr.{Expr}
 use Rattle.cl_ast.specs.declared.tree.Place.{Place}
 use Rattle.cl_ast.specs.declared.tree.Call.{Call}
 use Rattle.cl_ast.specs.declared.tree.Operation.{Operation}
 use Rattle.cl_ast.specs.declared.tree.Spanned.{Spanned}
 use Rattle.cl_ast.specs.declared.tree.Expr.TheOpen.{Expr-F, Place-F, Call-F, Operation-F, Field-F, Formal-F, Chain-F, Link-F, Prefix-F}
-use Rattle.cl_ast.specs.declared.statement.Stmt.{Stmt}
 use Rattle.cl_ast.specs.declared.statement.Block.{Block}
 use Rattle.cl_ast.specs.declared.statement.Stmt.TheOpen.{Stmt-F, Block-F, If-F, While-F, Do-F, For-F}
 use Rattle.cl_ast.specs.declared.statement.Declarator.{Declarator}
@@ -16,8 +15,8 @@ use Rattle.cl_ast.specs.declared.statement.Change.{Change}
 use Rattle.cl_ast.specs.declared.statement.Change.TheVariants as changes
 use Rattle.cl_ast.specs.declared.statement.Item.{Item}
 use Rattle.cl_ast.specs.declared.statement.Item.TheVariants as items
-use Rattle.cl_meaning.specs.Folds.{fold_expr, fold_place, fold_call, fold_operation, fold_stmt, fold_block}
-use Rattle.cl_meaning.specs.Variables.{Name, same_name}
+use Rattle.cl_meaning.specs.Folds.{fold_expr, fold_place, fold_call, fold_operation, fold_block}
+use Rattle.cl_meaning.specs.Variables.{same_name}
 
 -- an operation, at its word, or a string literal that is a field
 pub data Entry : Type 0 where

@@ -3,10 +3,9 @@
 use Rattle.std.specs.Prelude.{ℕ, true, false, nat_lt, if◌then◌else◌, List, [], ◌∷◌, map, length, Option, Some, None, ℤ, pos, negsuc, Ok, Err}
 use Rattle.cl_value.specs.declared.process.Trap.TheVariants.{IndexRange, EvalDepth}
 use Rattle.cl_value.specs.declared.value.Value.{Value}
-use Rattle.cl_value.specs.declared.value.Value.TheVariants.{Text}
 use Rattle.cl_value.specs.declared.template.Slot.{Slot}
 use Rattle.cl_value.specs.declared.template.Slot.TheVariants.{Actual, Formal}
-use Rattle.cl_value.specs.Plain.{PlainPart, Ready, PlainAsk, Out, In, Rd, Inp, Rdp, Eval, PlainReply, Done, Got, Miss}
+use Rattle.cl_value.specs.Plain.{PlainPart, PlainAsk, Out, In, Rd, Inp, Rdp, Eval, PlainReply, Done, Got, Miss}
 use Rattle.cl_ast.specs.declared.tree.TypeName.{TypeName}
 use Rattle.cl_ast.specs.declared.tree.Verb.{Verb}
 use Rattle.cl_ast.specs.declared.tree.Verb.TheVariants as verbs

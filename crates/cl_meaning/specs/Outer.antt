@@ -1,16 +1,13 @@
 -- What a text declares outside its functions: constants, globals and functions, and how many cells they take. (ISO/IEC 9899:1999, 6.9 and 6.10.3;
 -- cells: this project.)
-use Rattle.std.specs.Prelude.{ℕ, suc, ◌+◌, if◌then◌else◌, Bool, List, [], ◌∷◌, ◌++◌, map, replicate, length, Option, Some, None, ℤ, pos, negsuc, neg_ℤ, Ok, Err}
+use Rattle.std.specs.Prelude.{ℕ, suc, ◌+◌, if◌then◌else◌, Bool, List, [], ◌∷◌, ◌++◌, replicate, length, Option, Some, None, ℤ, pos, negsuc, neg_ℤ, Ok, Err}
 use Rattle.cl_value.specs.declared.value.Value.{Value}
-use Rattle.cl_value.specs.declared.value.Value.TheVariants.{Int, Long, Char, Text}
+use Rattle.cl_value.specs.declared.value.Value.TheVariants.{Int, Long, Char}
 use Rattle.cl_ast.specs.declared.tree.TypeName.{TypeName}
 use Rattle.cl_ast.specs.declared.tree.TypeName.TheVariants as types
-use Rattle.cl_ast.specs.declared.tree.Constant.{Constant}
-use Rattle.cl_ast.specs.declared.tree.Constant.TheVariants as constants
 use Rattle.cl_ast.specs.declared.tree.Expr.{Expr}
-use Rattle.cl_ast.specs.declared.tree.Expr.TheOpen.{Expr-F, Place-F, Call-F, Operation-F, Field-F, Formal-F, Chain-F, Link-F, Prefix-F}
-use Rattle.cl_ast.specs.declared.statement.Stmt.{Stmt}
-use Rattle.cl_ast.specs.declared.statement.Stmt.TheOpen.{Stmt-F, Block-F, If-F, While-F, Do-F, For-F}
+use Rattle.cl_ast.specs.declared.tree.Expr.TheOpen.{Expr-F}
+use Rattle.cl_ast.specs.declared.statement.Stmt.TheOpen.{Stmt-F}
 use Rattle.cl_ast.specs.declared.statement.Declarator.{Declarator}
 use Rattle.cl_ast.specs.declared.statement.Form.{Form}
 use Rattle.cl_ast.specs.declared.statement.Form.TheVariants as forms

@@ -2,12 +2,12 @@
 use Rattle.std.specs.Prelude.{ℕ, List, [], ◌∷◌, Option, Some, None, slice_get, codes, pos}
 use Rattle.cl_value.specs.declared.value.Value.{Value}
 use Rattle.cl_value.specs.declared.value.Value.TheVariants.{Int}
-use Rattle.cl_value.specs.Plain.{PlainPart, Ready, Call, PlainStart, Main, Lives, PlainReply}
+use Rattle.cl_value.specs.Plain.{PlainPart, Ready, Call, PlainStart, Main, Lives}
 use Rattle.cl_ast.specs.declared.statement.Function.{Function}
 use Rattle.cl_ast.specs.declared.statement.Item.{Item}
 use Rattle.cl_ast.specs.declared.tree.TypeName.TheVariants as types
-use Rattle.cl_model.specs.Demand.{Demand, Demands}
-use Rattle.cl_meaning.specs.Doing.{State, ◌>>=◌, ◌>>◌, pure, claim, each, demand_of}
+use Rattle.cl_model.specs.Demand.{Demands}
+use Rattle.cl_meaning.specs.Doing.{State, ◌>>=◌, ◌>>◌, pure, claim, demand_of}
 use Rattle.cl_meaning.specs.Numbers.{zero_of}
 use Rattle.cl_meaning.specs.Variables.{Variables}
 use Rattle.cl_meaning.specs.Operations.{Does}

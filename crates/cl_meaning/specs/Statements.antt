@@ -1,12 +1,11 @@
 -- What a statement does. A rule is told what its parts do. (ISO/IEC 9899:1999, 6.7 to 6.8; that a local begins at 0, and that a turn of a loop
 -- takes one tick: this project.)
-use Rattle.std.specs.Prelude.{ℕ, zero, suc, if◌then◌else◌, List, [], ◌∷◌, ◌++◌, map, replicate, Option, Some, None, pos}
+use Rattle.std.specs.Prelude.{ℕ, zero, suc, if◌then◌else◌, List, [], ◌∷◌, map, replicate, Option, Some, None, pos}
 use Rattle.cl_value.specs.declared.value.Value.{Value}
 use Rattle.cl_value.specs.declared.value.Value.TheVariants.{Int}
 use Rattle.cl_value.specs.declared.process.Trap.TheVariants.{StepLimit}
 use Rattle.cl_ast.specs.declared.tree.TypeName.{TypeName}
 use Rattle.cl_ast.specs.declared.tree.Expr.{Expr}
-use Rattle.cl_ast.specs.declared.tree.Spanned.{Spanned}
 use Rattle.cl_ast.specs.declared.tree.Operator.{Operator}
 use Rattle.cl_ast.specs.declared.tree.Operator.TheVariants as operators
 use Rattle.cl_ast.specs.declared.statement.Stmt.{Stmt}
