@@ -1,15 +1,14 @@
 -- The canonical text of a tree that sayable tokens derive reads back as the tree.
-use Rattle.std.proofs.Common.{◌≡◌, ℕ, ◌≤◌, true, List, map, refl, sym, ap, ◌∙◌, arith}
+use Rattle.std.proofs.Common.{◌≡◌, ℕ, ◌≤◌, true, sym, ap, ◌∙◌, arith}
 use Rattle.std.specs.List.{list_all}
-use Rattle.cl_rules.specs.Syntax.{Derivation, tokens, nesting, derives}
+use Rattle.cl_rules.specs.Syntax.{Derivation, nesting, derives}
 use Rattle.cl_rules.specs.Values.{value}
-use Rattle.cl_ast.specs.Plain.{PlainKind, PlainToken}
 use Rattle.cl_ast.specs.Classes.{kind_class}
 use Rattle.cl_ast.specs.Grammar.{rules, unit}
 use Rattle.cl_ast.specs.Tables.{language}
 use Rattle.cl_ast.specs.Trees.{meaning}
 use Rattle.cl_print.specs.Writing.{canonical, item_written}
-use Rattle.cl_print.specs.Bare.{bare, bare_item}
+use Rattle.cl_print.specs.Bare.{bare_item}
 use Rattle.cl_print.specs.Seen.{same}
 use Rattle.cl_print.specs.Back.{ReadsBack}
 use Rattle.cl_print.proofs.SplittingItems.{item_sayable, canonical_splits}

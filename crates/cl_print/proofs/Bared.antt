@@ -1,25 +1,20 @@
 -- Trees without their places, by those of their parts; and what is written of a tree that was put together.
-use Rattle.std.proofs.Common.{◌≡◌, ℕ, List, [], ◌∷◌, ◌++◌, map, Option, Some, None, option_map, refl, sym, ap, ◌∙◌}
+use Rattle.std.proofs.Common.{◌≡◌, List, map, sym, ap, ◌∙◌}
 use Rattle.cl_ast.specs.declared.span.Span.{Span}
-use Rattle.cl_ast.specs.declared.tree.Name.{Name}
 use Rattle.cl_ast.specs.declared.tree.Operator.{Operator}
-use Rattle.cl_ast.specs.declared.tree.Verb.{Verb}
-use Rattle.cl_ast.specs.declared.tree.Literal.{Literal}
 use Rattle.cl_ast.specs.declared.tree.Expr.{Expr}
 use Rattle.cl_ast.specs.declared.tree.Expr.TheVariants as exprs
-use Rattle.cl_ast.specs.declared.tree.Field.{Field}
-use Rattle.cl_ast.specs.declared.tree.Expr.TheOpen.{Expr-F, Field-F, Call-F, Chain-F, Formal-F, Link-F, Operation-F, Place-F, Prefix-F}
-use Rattle.cl_ast.specs.declared.tree.Call.{Call, roll-Call}
-use Rattle.cl_ast.specs.declared.tree.Chain.{Chain, roll-Chain}
+use Rattle.cl_ast.specs.declared.tree.Expr.TheOpen.{Expr-F}
+use Rattle.cl_ast.specs.declared.tree.Chain.{roll-Chain}
 use Rattle.cl_ast.specs.declared.tree.Link.{Link, roll-Link}
-use Rattle.cl_ast.specs.declared.tree.Prefix.{Prefix, roll-Prefix}
+use Rattle.cl_ast.specs.declared.tree.Prefix.{roll-Prefix}
 use Rattle.cl_print.specs.Folds.{fold_expr}
 use Rattle.cl_print.specs.Expressions.{Said, Joined, mark, prefixed, operand, links, chain_rank, expr_said, chain_said, link_joined, prefix_kinds}
 use Rattle.cl_print.specs.Expressions as written
-use Rattle.cl_print.specs.Bare.{nowhere, bare_literal, bare_expr, bare_place, bare_call, bare_operation, steps}
+use Rattle.cl_print.specs.Bare.{nowhere, bare_expr, steps}
 use Rattle.cl_print.specs.Seen.{bare_link}
 use Rattle.cl_print.proofs.Opens as opens
-use Rattle.cl_print.proofs.Equations.{said_chain, said_negate, said_not, chain_of, link_is, prefix_is}
+use Rattle.cl_print.proofs.Equations.{said_chain, said_negate, said_not, chain_of, prefix_is}
 use Rattle.cl_ast.specs.declared.mark.Mark.TheVariants as marks
 
 -- ---- chains

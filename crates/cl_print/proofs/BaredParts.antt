@@ -1,12 +1,11 @@
 -- Trees without their places, by those of their parts: places, calls, operations, fields and statements.
-use Rattle.std.proofs.Common.{◌≡◌, ℕ, List, [], ◌∷◌, ◌++◌, map, Option, Some, None, option_map, refl, sym, ap, ◌∙◌}
+use Rattle.std.proofs.Common.{◌≡◌, map, Option, Some, None, option_map, refl, sym, ap, ◌∙◌}
 use Rattle.cl_ast.specs.declared.span.Span.{Span}
 use Rattle.cl_ast.specs.declared.tree.Name.{Name}
 use Rattle.cl_ast.specs.declared.tree.Literal.{Literal}
 use Rattle.cl_ast.specs.declared.tree.Text.{Text}
 use Rattle.cl_ast.specs.declared.tree.Expr.{Expr}
 use Rattle.cl_ast.specs.declared.tree.Expr.TheVariants as exprs
-use Rattle.cl_ast.specs.declared.tree.Field.{Field}
 use Rattle.cl_ast.specs.declared.tree.Field.TheVariants as field_forms
 use Rattle.cl_ast.specs.declared.tree.Expr.TheOpen.{Expr-F, Field-F}
 use Rattle.cl_ast.specs.declared.tree.Call.{Call, roll-Call}
@@ -25,7 +24,7 @@ use Rattle.cl_ast.specs.declared.statement.Variables.{Variables}
 use Rattle.cl_ast.specs.declared.statement.Assign.{Assign}
 use Rattle.cl_ast.specs.declared.statement.Print.{Print}
 use Rattle.cl_ast.specs.declared.statement.Return.{Return}
-use Rattle.cl_print.specs.Folds.{fold_expr, fold_field, fold_stmt, fold_do, fold_for, fold_if, fold_while}
+use Rattle.cl_print.specs.Folds.{fold_expr, fold_field, fold_stmt}
 use Rattle.cl_print.specs.Bare.{nowhere, bare_name, bare_literal, bare_text, bare_expr, bare_field, bare_place, bare_call, bare_operation, bare_variables, bare_assign, bare_print, bare_return, bare_stmt, bare_block, steps, stmt_steps}
 use Rattle.cl_print.proofs.Opens as opens
 

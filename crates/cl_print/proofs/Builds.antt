@@ -1,35 +1,28 @@
 -- Each part of the grammar is built the same of parts that are the same: its tree but for places, and its text.
-use Rattle.std.proofs.Common.{◌≡◌, ℕ, Bool, true, false, List, [], ◌∷◌, ◌++◌, map, Option, Some, None, option_map, refl, sym, ap, ap₂, subst, ◌∙◌, inl, inr}
+use Rattle.std.proofs.Common.{◌≡◌, Bool, true, false, List, [], ◌∷◌, ◌++◌, map, Option, Some, option_map, refl, sym, ap, ap₂, subst, ◌∙◌, inl, inr}
 use Rattle.std.specs.Prelude.{◌⊎◌}
-use Rattle.cl_rules.specs.Syntax.{Rule}
-use Rattle.cl_rules.specs.Values.{Parts}
 use Rattle.cl_ast.specs.declared.span.Span.{Span}
-use Rattle.cl_ast.specs.declared.word.Word.TheVariants as words
 use Rattle.cl_ast.specs.declared.mark.Mark.TheVariants as marks
-use Rattle.cl_ast.specs.declared.tree.Operator.{Operator}
-use Rattle.cl_ast.specs.declared.tree.Verb.{Verb}
-use Rattle.cl_ast.specs.declared.tree.TypeName.{TypeName}
 use Rattle.cl_ast.specs.declared.tree.Name.{Name}
 use Rattle.cl_ast.specs.declared.tree.Expr.{Expr}
 use Rattle.cl_ast.specs.declared.tree.Expr.TheVariants as exprs
 use Rattle.cl_ast.specs.declared.tree.Field.{Field}
 use Rattle.cl_ast.specs.declared.tree.Field.TheVariants as field_forms
 use Rattle.cl_ast.specs.declared.tree.Place.{Place, roll-Place}
-use Rattle.cl_ast.specs.declared.tree.Call.{Call, roll-Call}
+use Rattle.cl_ast.specs.declared.tree.Call.{roll-Call}
 use Rattle.cl_ast.specs.declared.tree.Operation.{roll-Operation}
 use Rattle.cl_ast.specs.declared.tree.Formal.{roll-Formal}
 use Rattle.cl_ast.specs.declared.tree.Prefix.{roll-Prefix}
-use Rattle.cl_ast.specs.declared.tree.Link.{Link, roll-Link}
+use Rattle.cl_ast.specs.declared.tree.Link.{roll-Link}
 use Rattle.cl_ast.specs.Plain.{PlainKind, PlainToken}
-use Rattle.cl_ast.specs.Grammar.{Part, rules}
-use Rattle.cl_ast.specs.Trees.{tree_of, Index, index_value, span_of, to_name, to_literal, to_text, kind_bytes, kind_constant, kind_verb, kind_operator, is_not, behind_marks, listed, listed_or_none, to_place, to_call, to_operation, to_named, to_primary, to_prefix, to_unary, to_links, to_chain, to_level, to_field}
+use Rattle.cl_ast.specs.Trees.{Index, index_value, span_of, to_name, to_literal, to_text, kind_bytes, kind_constant, kind_verb, kind_operator, is_not, behind_marks, listed, listed_or_none, to_place, to_call, to_operation, to_named, to_primary, to_prefix, to_unary, to_links, to_level, to_field}
 use Rattle.cl_print.specs.Spelling.{one}
 use Rattle.cl_print.specs.Expressions.{Said, Joined, Row, mark, word, constant_kind, verb_word, operand, prefixed, in_brackets, close, indexed, all_kinds, expr_said, field_kinds, place_kinds, call_kinds, operation_kinds, formal_kinds, link_joined}
 use Rattle.cl_print.specs.Expressions as written
 use Rattle.cl_ast.specs.Plain as plain
 use Rattle.cl_print.specs.Bare.{nowhere, bare_expr, bare_field, bare_place, bare_call, bare_operation}
-use Rattle.cl_print.specs.Alike.{either_alike, all_alike, Alike}
-use Rattle.cl_print.specs.Seen.{Tells, SameExpr, SameField, SameLink, bare_link, same}
+use Rattle.cl_print.specs.Alike.{either_alike, all_alike}
+use Rattle.cl_print.specs.Seen.{Tells, SameExpr, SameField, bare_link}
 use Rattle.cl_print.proofs.Equations.{said_literal, said_place, said_call, said_operation, place_is, call_is, operation_is, formal_is, field_text, field_formal, field_plain}
 use Rattle.cl_print.proofs.Bared.{bare_linked, joined_made, bare_negate, bare_not, said_negated, said_denied}
 use Rattle.cl_print.proofs.BaredParts.{bare_expr_literal, bare_expr_place, bare_expr_call, bare_expr_operation, bare_place_is, bare_call_is, bare_operation_is, bare_field_text, bare_field_formal, bare_field_plain}

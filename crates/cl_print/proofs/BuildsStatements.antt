@@ -1,14 +1,13 @@
 -- Statements, declarations and items are built the same of parts that are the same.
-use Rattle.std.proofs.Common.{◌≡◌, ℕ, Bool, true, false, List, [], ◌∷◌, ◌++◌, map, Option, Some, None, option_map, refl, sym, ap, ap₂, subst, ◌∙◌, inl, inr}
+use Rattle.std.proofs.Common.{◌≡◌, true, false, List, [], ◌∷◌, ◌++◌, map, Option, Some, None, option_map, refl, sym, ap, ap₂, subst, ◌∙◌, inl, inr}
 use Rattle.std.specs.Prelude.{◌⊎◌}
 use Rattle.cl_rules.specs.Values.{Parts}
-use Rattle.cl_ast.specs.declared.span.Span.{Span}
 use Rattle.cl_ast.specs.declared.word.Word.TheVariants as words
 use Rattle.cl_ast.specs.declared.mark.Mark.TheVariants as marks
 use Rattle.cl_ast.specs.declared.tree.TypeName.{TypeName}
 use Rattle.cl_ast.specs.declared.tree.Expr.{Expr}
 use Rattle.cl_ast.specs.declared.tree.Spanned.{Spanned}
-use Rattle.cl_ast.specs.declared.tree.Place.{Place, roll-Place}
+use Rattle.cl_ast.specs.declared.tree.Place.{Place}
 use Rattle.cl_ast.specs.declared.statement.Stmt.{Stmt}
 use Rattle.cl_ast.specs.declared.statement.Stmt.TheVariants as stmts
 use Rattle.cl_ast.specs.declared.statement.Block.{Block, roll-Block}
@@ -22,22 +21,20 @@ use Rattle.cl_ast.specs.declared.statement.Change.TheVariants as changes
 use Rattle.cl_ast.specs.declared.statement.Variables.{Variables}
 use Rattle.cl_ast.specs.declared.statement.Declarator.{Declarator}
 use Rattle.cl_ast.specs.declared.statement.Form.TheVariants as forms
-use Rattle.cl_ast.specs.declared.statement.Size.{Size}
 use Rattle.cl_ast.specs.declared.statement.Size.TheVariants as sizes
 use Rattle.cl_ast.specs.declared.statement.Parameter.{Parameter}
-use Rattle.cl_ast.specs.declared.statement.Item.{Item}
 use Rattle.cl_ast.specs.declared.statement.Item.TheVariants as items
 use Rattle.cl_ast.specs.Plain as plain
 use Rattle.cl_ast.specs.Plain.{PlainKind, PlainToken}
 use Rattle.cl_ast.specs.Grammar.{Part, rules}
 use Rattle.cl_ast.specs.Grammar as parts
-use Rattle.cl_ast.specs.Trees.{tree_of, Index, Given, Body, Head, build, kind_bytes, kind_constant, kind_type, index_value, span_of, place_span, to_name, to_literal, to_text, behind_marks, listed, to_maybe, kind_change, to_step, is_decrement, to_change, to_assign, to_started, to_simple, to_body, to_else, to_leave, to_for, to_loop, to_plain, to_inner, kind_size, to_given, to_declarator, to_variables, to_parameter, to_parameters, to_params, to_function, is_there, to_result, to_typed, to_item, to_call, to_operation}
+use Rattle.cl_ast.specs.Trees.{tree_of, Index, Given, Body, build, kind_bytes, kind_constant, kind_type, index_value, span_of, place_span, to_name, to_text, behind_marks, listed, to_maybe, kind_change, to_step, is_decrement, to_change, to_assign, to_started, to_simple, to_body, to_else, to_leave, to_plain, to_inner, kind_size, to_given, to_declarator, to_variables, to_parameters, to_params, to_function, is_there, to_result, to_typed, to_item, to_call, to_operation}
 use Rattle.cl_print.specs.Spelling.{one, spaced}
 use Rattle.cl_print.specs.Expressions.{Said, Row, mark, word, constant_kind, in_brackets, behind_commas, expr_said, place_kinds, call_kinds}
 use Rattle.cl_print.specs.Expressions as written
-use Rattle.cl_print.specs.Statements.{Line, expr_kinds, spanned_kinds, type_word, size_kind, form_kinds, declarator_kinds, variables_kinds, change_kinds, assign_kinds, print_kinds, closed, maybe_expr, maybe_simple, otherwise, in_order, stmt_line, block_kinds}
+use Rattle.cl_print.specs.Statements.{spanned_kinds, type_word, size_kind, form_kinds, declarator_kinds, variables_kinds, change_kinds, assign_kinds, print_kinds, closed, maybe_expr, maybe_simple, otherwise, in_order, stmt_line, block_kinds}
 use Rattle.cl_print.specs.Writing.{result_word, parameter_kinds, function_kinds, define_written, item_written}
-use Rattle.cl_print.specs.Bare.{nowhere, bare_name, bare_expr, bare_place, bare_spanned, bare_size, bare_form, bare_declarator, bare_variables, bare_change, bare_stmt, bare_block, bare_parameter, bare_item}
+use Rattle.cl_print.specs.Bare.{nowhere, bare_expr, bare_place, bare_spanned, bare_size, bare_form, bare_declarator, bare_variables, bare_change, bare_stmt, bare_block, bare_parameter, bare_item}
 use Rattle.cl_print.specs.Alike.{either_alike, all_alike, Alike}
 use Rattle.cl_print.specs.Seen.{Tells, SameExpr, SameField, SameStmt, SameParameter, same}
 use Rattle.cl_print.proofs.StatementEquations.{line_block, line_empty, line_variables, line_assign, line_call, line_operation, line_print, line_if, line_while, line_do, line_for, line_break, line_continue, line_return, block_is, if_is, while_is, do_is, for_is}

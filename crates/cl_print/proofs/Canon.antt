@@ -1,20 +1,19 @@
 -- What is known of each part of a derivation: an expression by its own level, each other part by a derivation that is written so.
-use Rattle.std.proofs.Common.{◌≡◌, ℕ, suc, ◌<◌, ◌≤◌, Bool, true, false, not, ◌&&◌, ◌||◌, ltb, List, [], ◌∷◌, ◌++◌, refl, sym, ap, subst, ◌∙◌, arith, inl, inr}
-use Rattle.std.proofs.lemmas.Bool.{cases_Bool, and_parts, cond-true}
-use Rattle.cl_rules.specs.Rules.{begins, clear, is_empty}
-use Rattle.cl_rules.specs.Syntax.{Rule, Token, Nothing, Both, Either, Many, Counted, Symbol, Derivation, leaf, empty, pair, first, second, none, more, part, node, tokens, nesting, has, may_be_empty, opens, goes_on, derives}
+use Rattle.std.proofs.Common.{◌≡◌, Bool, true, false, ◌&&◌, ltb, refl, sym, ap, ◌∙◌, arith}
+use Rattle.std.proofs.lemmas.Bool.{and_parts, cond-true}
+use Rattle.cl_rules.specs.Rules.{is_empty}
+use Rattle.cl_rules.specs.Syntax.{Rule, Token, Nothing, Both, Either, Many, Counted, Symbol, Derivation, leaf, empty, pair, first, second, none, more, part, node, tokens, nesting, has, opens, derives}
 use Rattle.cl_rules.specs.Values.{value}
 use Rattle.cl_rules.proofs.Bounds.{derivation_starts, pair_parts}
 use Rattle.cl_ast.specs.Plain.{PlainToken}
-use Rattle.cl_ast.specs.Classes.{class_of}
 use Rattle.cl_ast.specs.Grammar.{Part, rules}
 use Rattle.cl_ast.specs.Grammar as parts
 use Rattle.cl_ast.specs.Tables.{language, bounds, lasts}
 use Rattle.cl_ast.specs.Trees.{meaning}
 use Rattle.cl_ast.proofs.Fits.{grammar_fits}
-use Rattle.cl_print.specs.Expressions.{operand, expr_said}
+use Rattle.cl_print.specs.Expressions.{expr_said}
 use Rattle.cl_print.proofs.Spoken.{Core, operand_at, quiet_before}
-use Rattle.cl_print.proofs.Replace.{else_class, Written, AllWritten, not_both, some_of}
+use Rattle.cl_print.proofs.Replace.{Written, AllWritten, not_both, some_of}
 
 abbrev pub Canon : (s : Part) → Derivation rules (rules s) → Type 0
 Canon parts.primary x = Core 0 (value meaning {r = Symbol parts.primary} (node parts.primary x)) (nesting x)

@@ -1,9 +1,9 @@
 -- Every unit that tokens derive is derived by the tokens of its text.
-use Rattle.std.proofs.Common.{◌≡◌, ℕ, ◌≤◌, Bool, true, List, [], ◌∷◌, ◌++◌, map, refl, sym, ap, ap₂, ◌∙◌, arith}
-use Rattle.cl_rules.specs.Syntax.{Rule, Symbol, Derivation, leaf, empty, pair, first, second, none, more, part, node, tokens, nesting, derives}
+use Rattle.std.proofs.Common.{◌≡◌, true, ◌++◌, refl, sym, ap, ◌∙◌}
+use Rattle.cl_rules.specs.Syntax.{Rule, Symbol, Derivation, leaf, empty, pair, first, second, none, more, part, node, derives}
 use Rattle.cl_rules.specs.Values.{value}
 use Rattle.cl_rules.proofs.Bounds.{pair_parts}
-use Rattle.cl_ast.specs.Plain.{PlainKind, PlainToken}
+use Rattle.cl_ast.specs.Plain.{PlainToken}
 use Rattle.cl_ast.specs.Grammar.{Part, rules, unit}
 use Rattle.cl_ast.specs.Grammar as parts
 use Rattle.cl_ast.specs.Tables.{language, bounds}

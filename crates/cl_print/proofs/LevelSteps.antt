@@ -1,46 +1,26 @@
 -- Each level of operators is derived as it is written, where its operands are.
-use Rattle.std.proofs.Common.{◌≡◌, ℕ, zero, suc, ◌+◌, ◌-◌, ◌<◌, ◌≤◌, Bool, true, false, not, ◌&&◌, ◌||◌, List, [], ◌∷◌, ◌++◌, map, refl, sym, ap, ap₂, subst, ◌∙◌, arith, inl, inr}
-use Rattle.std.specs.Prelude.{◌⊎◌, max}
-use Rattle.std.proofs.lemmas.Bool.{cases_Bool, and_from, and_parts}
-use Rattle.cl_rules.specs.Rules.{clear}
-use Rattle.cl_rules.specs.Syntax.{Rule, Token, Nothing, Both, Either, Many, Counted, Symbol, ◌⨾◌, ◌∣◌, maybe, Derivation, leaf, empty, pair, first, second, none, more, part, node, tokens, nesting, has, goes_on, derives}
-use Rattle.cl_rules.specs.Fit.{fits}
-use Rattle.cl_rules.specs.Values.{Parts, value}
-use Rattle.cl_rules.proofs.Laws.{clear_none}
-use Rattle.cl_rules.proofs.Bounds.{has_apart, pair_parts}
+use Rattle.std.proofs.Common.{◌≡◌, true, List, [], ◌∷◌, ◌++◌, refl, sym, ap, subst, arith}
+use Rattle.std.specs.Prelude.{max}
+use Rattle.cl_rules.specs.Syntax.{Rule, Many, Symbol, Derivation, leaf, pair, none, more, node, tokens, nesting, has, derives}
+use Rattle.cl_rules.specs.Values.{value}
+use Rattle.cl_rules.proofs.Bounds.{has_apart}
 use Rattle.cl_ast.specs.declared.word.Word.TheVariants as words
 use Rattle.cl_ast.specs.declared.mark.Mark.TheVariants as marks
-use Rattle.cl_ast.specs.declared.mark.Mark.{Mark}
-use Rattle.cl_ast.specs.declared.span.Span.{Span}
-use Rattle.cl_ast.specs.declared.tree.Expr.{Expr}
-use Rattle.cl_ast.specs.declared.tree.Expr.TheVariants as exprs
-use Rattle.cl_ast.specs.declared.tree.Field.{Field}
 use Rattle.cl_ast.specs.declared.tree.Link.{Link, roll-Link}
-use Rattle.cl_ast.specs.declared.tree.Prefix.{roll-Prefix}
-use Rattle.cl_ast.specs.Classes.{class_of, kind_class, mark_class, mark_classes, sample}
+use Rattle.cl_ast.specs.Classes.{class_of, kind_class, mark_classes, sample}
 use Rattle.cl_ast.specs.Plain as plain
 use Rattle.cl_ast.specs.Plain.{PlainKind, PlainToken}
 use Rattle.cl_ast.specs.Grammar.{Part, rules, name, word_of}
 use Rattle.cl_ast.specs.Grammar as parts
-use Rattle.cl_ast.specs.Tables.{language, bounds, lasts}
-use Rattle.cl_ast.specs.Trees.{tree_of, meaning, build, Index, span_of, is_not, kind_operator, to_literal, to_place, to_call, to_operation, to_named, to_prefix, to_links, to_chain}
-use Rattle.cl_ast.proofs.Fits.{grammar_fits}
-use Rattle.cl_print.specs.Spelling.{one}
-use Rattle.cl_print.specs.Expressions.{Row, operand, prefixed, close, expr_said, operator_mark, operator_rank}
-use Rattle.cl_print.specs.Alike.{Alike}
-use Rattle.cl_print.specs.Seen.{same, SameExpr}
-use Rattle.cl_print.specs.Says.{part_said, parts_said}
-use Rattle.cl_print.proofs.Splitting.{kinds}
-use Rattle.cl_print.proofs.Spoken.{Core, SpokenAt, value_at, operand_at, next_core, quiet_before}
-use Rattle.cl_print.proofs.Replace.{else_class, steady, Settled, Written, AllWritten, replace, not_both}
-use Rattle.cl_print.proofs.Settled.{mark_only, word_only, name_only, text_only, literal_only, predicate_only}
-use Rattle.cl_print.proofs.BuildsStatements.{builds}
-use Rattle.cl_print.proofs.PartsSaid.{index_said, arguments_are, fields_are, place_are, field_are}
-use Rattle.cl_print.proofs.Equations.{said_literal, said_place, said_call, said_operation, place_is, call_is, operation_is}
-use Rattle.cl_print.proofs.Bared.{said_negated, said_denied}
-use Rattle.cl_print.proofs.Levels.{IsLevel, OneMore, links_of, AllSaid, Chained, chained}
+use Rattle.cl_ast.specs.Tables.{language, lasts}
+use Rattle.cl_ast.specs.Trees.{meaning, span_of, kind_operator, to_links, to_chain}
+use Rattle.cl_print.specs.Expressions.{operand, expr_said, operator_mark, operator_rank}
+use Rattle.cl_print.specs.Seen.{SameExpr}
+use Rattle.cl_print.proofs.Spoken.{Core, SpokenAt, value_at, operand_at, next_core}
+use Rattle.cl_print.proofs.Replace.{not_both}
+use Rattle.cl_print.proofs.Levels.{IsLevel, OneMore, links_of, AllSaid, chained}
 use Rattle.cl_print.proofs.ExprSteps.{wider}
-use Rattle.cl_print.proofs.Canon.{Canon, Within, names_outer, all_written, some_tokens}
+use Rattle.cl_print.proofs.Canon.{Canon, Within}
 
 -- ---- product
 

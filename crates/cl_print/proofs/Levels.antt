@@ -1,30 +1,26 @@
 -- Chains of one level, by one proof for all levels.
-use Rattle.std.proofs.Common.{◌≡◌, ℕ, zero, suc, ◌+◌, ◌<◌, ◌≤◌, Bool, true, false, not, ◌&&◌, ◌||◌, List, [], ◌∷◌, ◌++◌, map, refl, sym, ap, ap₂, subst, ◌∙◌, arith, inl, inr, append_assoc}
-use Rattle.std.proofs.lemmas.Bool.{cases_Bool, and_from, and_parts, and_right}
+use Rattle.std.proofs.Common.{◌≡◌, ℕ, ◌≤◌, Bool, true, false, not, ◌&&◌, ◌||◌, List, [], ◌∷◌, ◌++◌, map, refl, sym, ap, ap₂, ◌∙◌, arith}
+use Rattle.std.proofs.lemmas.Bool.{and_from, and_parts, and_right}
 use Rattle.std.specs.Prelude.{max}
 use Rattle.cl_rules.specs.Rules.{clear, is_empty}
-use Rattle.cl_rules.specs.Syntax.{Rule, Token, Both, Many, Symbol, Derivation, leaf, pair, none, more, node, tokens, nesting, has, goes_on, derives}
-use Rattle.cl_rules.specs.Values.{value}
+use Rattle.cl_rules.specs.Syntax.{Rule, Token, Both, Many, Symbol, Derivation, leaf, pair, none, more, tokens, nesting, has, goes_on, derives}
 use Rattle.cl_rules.proofs.Laws.{clear_none}
 use Rattle.cl_rules.proofs.Bounds.{pair_parts}
 use Rattle.cl_ast.proofs.Fits.{grammar_fits}
 use Rattle.cl_ast.specs.declared.span.Span.{Span}
-use Rattle.cl_ast.specs.declared.mark.Mark.TheVariants as marks
-use Rattle.cl_ast.specs.declared.tree.Operator.{Operator}
 use Rattle.cl_ast.specs.declared.tree.Expr.{Expr}
 use Rattle.cl_ast.specs.declared.tree.Expr.TheVariants as exprs
 use Rattle.cl_ast.specs.declared.tree.Chain.{roll-Chain}
 use Rattle.cl_ast.specs.declared.tree.Link.{Link, roll-Link}
-use Rattle.cl_ast.specs.Plain.{PlainKind, PlainToken, Name, Int, Long, Character, Str, Keyword, Reserved, Punctuator, Define}
-use Rattle.cl_ast.specs.Classes.{class_of, kind_class, mark_classes}
+use Rattle.cl_ast.specs.Plain.{PlainKind, PlainToken, Punctuator}
+use Rattle.cl_ast.specs.Classes.{class_of, kind_class}
 use Rattle.cl_ast.specs.Grammar.{Part, rules}
-use Rattle.cl_ast.specs.Grammar as parts
 use Rattle.cl_ast.specs.Tables.{language, bounds, lasts}
-use Rattle.cl_ast.specs.Trees.{meaning, kind_operator, to_links, to_chain}
+use Rattle.cl_ast.specs.Trees.{kind_operator, to_chain}
 use Rattle.cl_print.specs.Spelling.{one}
-use Rattle.cl_print.specs.Expressions.{Said, Joined, Row, mark, operator_mark, operator_rank, operand, links, chain_rank, expr_said, link_joined}
-use Rattle.cl_print.specs.Bare.{nowhere, bare_expr}
-use Rattle.cl_print.specs.Seen.{SameExpr, SameLink, bare_link}
+use Rattle.cl_print.specs.Expressions.{Said, mark, operator_mark, operator_rank, operand, links, chain_rank, expr_said, link_joined}
+use Rattle.cl_print.specs.Bare.{nowhere}
+use Rattle.cl_print.specs.Seen.{SameExpr, bare_link}
 use Rattle.cl_print.proofs.Splitting.{kinds, kinds_append}
 use Rattle.cl_print.proofs.Equations.{chain_of}
 use Rattle.cl_print.proofs.Bared.{bare_chain, said_made, bare_linked, joined_made}

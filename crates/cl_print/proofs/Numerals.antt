@@ -1,12 +1,11 @@
 -- Decimal numbers are spelled so that they are read back.
-use Rattle.std.proofs.Common.{◌≡◌, ◌≢◌, ℕ, zero, suc, ◌+◌, ◌-◌, ◌*◌, ◌<◌, ◌≤◌, ◌^◌, Bool, true, false, not, ◌&&◌, leb, eqb, List, [], ◌∷◌, length, get_or, decimal, refl, sym, ap, ◌∙◌, arith, inl, inr}
+use Rattle.std.proofs.Common.{◌≡◌, ◌≢◌, ℕ, zero, suc, ◌-◌, ◌<◌, ◌≤◌, ◌^◌, true, false, leb, eqb, List, [], ◌∷◌, get_or, decimal, refl, ap, ◌∙◌, arith, inl, inr}
 use Rattle.std.specs.List.{list_all}
 use Rattle.std.specs.Fmt.{digits}
-use Rattle.std.proofs.lemmas.Bool.{cases_Bool, and_from, and_parts, leb-true, le-leb, lt-leb, cond-true, cond-false}
-use Rattle.std.proofs.lemmas.Fmt.{digits_value-decimal, digits_decimal, first_decimal, decimal_nonempty}
+use Rattle.std.proofs.lemmas.Bool.{cases_Bool, and_from, and_parts, leb-true, le-leb, cond-true, cond-false}
+use Rattle.std.proofs.lemmas.Fmt.{digits_value-decimal, digits_decimal, first_decimal}
 use Rattle.std.proofs.lemmas.Str.Parse.{IsDigitsTest, FoldsDigits, IsNumeralModel, numerals_by_fold}
-use Rattle.std.specs.Prelude.{if◌then◌else◌}
-use Rattle.cl_ast.specs.Bytes.{is_digit, digit_value, begins_with}
+use Rattle.cl_ast.specs.Bytes.{is_digit, digit_value}
 use Rattle.cl_ast.specs.Lexemes.{is_decimal, value_on}
 
 abbrev AreDigits : List ℕ → Type 0

@@ -1,20 +1,19 @@
 -- What is written of a part of the grammar is what is written of the parts of its rule: expressions and what stands in them.
-use Rattle.std.proofs.Common.{◌≡◌, ℕ, Bool, true, false, List, [], ◌∷◌, ◌++◌, map, Option, Some, None, option_map, refl, sym, ap, ap₂, ◌∙◌, append_assoc, inl, inr}
+use Rattle.std.proofs.Common.{◌≡◌, List, [], ◌∷◌, ◌++◌, map, option_map, refl, ap, ◌∙◌, inl, inr}
 use Rattle.std.specs.Prelude.{◌⊎◌}
 use Rattle.cl_rules.specs.Values.{Parts}
 use Rattle.cl_ast.specs.declared.mark.Mark.TheVariants as marks
 use Rattle.cl_ast.specs.declared.tree.Expr.{Expr}
-use Rattle.cl_ast.specs.declared.tree.Field.{Field}
 use Rattle.cl_ast.specs.declared.tree.Formal.{roll-Formal}
 use Rattle.cl_ast.specs.Plain as plain
 use Rattle.cl_ast.specs.Plain.{PlainKind, PlainToken}
 use Rattle.cl_ast.specs.Grammar.{Part, rules}
 use Rattle.cl_ast.specs.Grammar as parts
-use Rattle.cl_ast.specs.Trees.{tree_of, build, Index, index_value, span_of, token_bytes, behind_marks, to_place, to_call, to_operation, to_text}
+use Rattle.cl_ast.specs.Trees.{tree_of, build, Index, index_value, span_of, token_bytes, behind_marks, to_place, to_text}
 use Rattle.cl_print.specs.Spelling.{one}
-use Rattle.cl_print.specs.Expressions.{Row, mark, behind_commas, all_kinds, indexed, expr_said, field_kinds, place_kinds}
+use Rattle.cl_print.specs.Expressions.{Row, behind_commas, all_kinds, indexed, expr_said, field_kinds}
 use Rattle.cl_print.specs.Says.{part_said, parts_said, all_said}
-use Rattle.cl_print.proofs.Equations.{place_is, call_is, operation_is, formal_is, field_text, field_formal, field_plain}
+use Rattle.cl_print.proofs.Equations.{place_is, formal_is, field_text, field_formal, field_plain}
 
 -- what stands behind commas
 pub commas_said : {A : Type 0} (one_said : A → Row) (xs : List (PlainToken × A)) → behind_commas (map one_said (behind_marks xs)) ≡ all_said (λ p. plain.Punctuator marks.Comma ∷ one_said p.1) xs

@@ -1,5 +1,5 @@
 -- The same of statements, declarations and items.
-use Rattle.std.proofs.Common.{◌≡◌, ℕ, Bool, true, false, cond, List, [], ◌∷◌, ◌++◌, map, Option, Some, None, option_map, refl, sym, ap, ap₂, ◌∙◌, append_assoc, inl, inr}
+use Rattle.std.proofs.Common.{◌≡◌, Bool, true, false, cond, List, [], ◌∷◌, ◌++◌, map, option_map, refl, ap, ap₂, ◌∙◌, append_assoc, inl, inr}
 use Rattle.std.specs.Prelude.{◌⊎◌}
 use Rattle.std.proofs.lemmas.List.{append-nil}
 use Rattle.cl_rules.specs.Values.{Parts}
@@ -18,10 +18,10 @@ use Rattle.cl_ast.specs.Plain as plain
 use Rattle.cl_ast.specs.Plain.{PlainKind, PlainToken}
 use Rattle.cl_ast.specs.Grammar.{Part, rules}
 use Rattle.cl_ast.specs.Grammar as parts
-use Rattle.cl_ast.specs.Trees.{tree_of, build, Index, Given, Body, kind_bytes, kind_constant, kind_type, index_value, span_of, place_span, token_span, token_bytes, to_name, to_text, behind_marks, to_maybe, kind_change, to_step, is_decrement, to_change, to_assign, to_started, to_simple, to_body, to_else, to_leave, to_plain, to_inner, kind_size, to_given, to_declarator, to_call, to_operation}
+use Rattle.cl_ast.specs.Trees.{tree_of, build, Index, Given, Body, kind_bytes, kind_constant, kind_type, index_value, span_of, place_span, token_span, token_bytes, to_name, to_text, behind_marks, to_maybe, kind_change, to_step, is_decrement, to_change, to_assign, to_started, to_simple, to_body, to_else, to_leave, to_inner, kind_size, to_declarator, to_call, to_operation}
 use Rattle.cl_print.specs.Spelling.{one}
-use Rattle.cl_print.specs.Expressions.{Row, mark, word, constant_kind, in_brackets, indexed, expr_said, field_kinds}
-use Rattle.cl_print.specs.Statements.{type_word, spanned_kinds, change_kinds, assign_kinds, print_kinds, size_kind, form_kinds, declarator_kinds, variables_kinds, closed, maybe_expr, maybe_simple, otherwise, in_order, stmt_line, if_kinds, while_kinds, for_kinds}
+use Rattle.cl_print.specs.Expressions.{Row, constant_kind, indexed, expr_said}
+use Rattle.cl_print.specs.Statements.{type_word, spanned_kinds, change_kinds, assign_kinds, print_kinds, size_kind, declarator_kinds, variables_kinds, closed, maybe_expr, maybe_simple, otherwise, in_order, stmt_line, if_kinds, while_kinds, for_kinds}
 use Rattle.cl_print.specs.Says.{part_said, parts_said, all_said, either_said, size_said, change_said, step_said, leave_said}
 use Rattle.cl_print.proofs.Equations.{place_is, call_is, operation_is}
 use Rattle.cl_print.proofs.StatementEquations.{line_block, line_empty, line_variables, line_assign, line_call, line_operation, line_print, line_if, line_while, line_do, line_for, line_break, line_continue, line_return, block_is, if_is, while_is, do_is, for_is}

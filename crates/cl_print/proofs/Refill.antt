@@ -1,8 +1,8 @@
 -- A derivation of some tokens is one of others of the same kinds: what it means is the same but for places.
-use Rattle.std.proofs.Common.{◌≡◌, ℕ, suc, ◌≤◌, Bool, true, false, not, ◌&&◌, ◌||◌, List, [], ◌∷◌, ◌++◌, map, refl, sym, ap, ap₂, ◌∙◌}
+use Rattle.std.proofs.Common.{◌≡◌, suc, Bool, not, ◌&&◌, ◌||◌, List, [], ◌∷◌, ◌++◌, map, refl, sym, ap, ap₂, ◌∙◌}
 use Rattle.std.specs.Prelude.{max}
-use Rattle.cl_rules.specs.Rules.{begins, clear, is_empty}
-use Rattle.cl_rules.specs.Syntax.{Rule, Token, Nothing, Both, Either, Many, Counted, Symbol, Derivation, leaf, empty, pair, first, second, none, more, part, node, tokens, nesting, has, starts, Language, opens, goes_on, derives}
+use Rattle.cl_rules.specs.Rules.{clear, is_empty}
+use Rattle.cl_rules.specs.Syntax.{Rule, Derivation, leaf, empty, pair, first, second, none, more, part, node, tokens, nesting, has, starts, Language, opens, goes_on, derives}
 use Rattle.cl_rules.specs.Values.{Parts, Meaning, value}
 use Rattle.cl_print.specs.Alike.{Alike}
 

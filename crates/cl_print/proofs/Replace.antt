@@ -1,24 +1,20 @@
 -- A derivation in which each part was replaced by one that is derived as it is written.
-use Rattle.std.proofs.Common.{◌≡◌, ℕ, suc, ◌<◌, ◌≤◌, Bool, true, false, not, ◌&&◌, ◌||◌, eqb, cond, List, [], ◌∷◌, ◌++◌, map, refl, sym, ap, ap₂, subst, ◌∙◌, arith, inl, inr}
-use Rattle.std.proofs.lemmas.List.{append-nil}
-use Rattle.std.specs.Prelude.{◌⊎◌, max}
+use Rattle.std.proofs.Common.{◌≡◌, ℕ, ◌≤◌, Bool, true, false, not, ◌&&◌, ◌||◌, eqb, List, [], ◌∷◌, ◌++◌, refl, sym, ap, ap₂, subst, ◌∙◌, arith, inl, inr}
 use Rattle.std.proofs.lemmas.Bool.{cases_Bool, and_from, and_parts, and_right, or_cases, not-true}
 use Rattle.cl_rules.specs.Rules.{begins, clear, is_empty}
 use Rattle.cl_rules.specs.Syntax.{Rule, Token, Nothing, Both, Either, Many, Counted, Symbol, Derivation, leaf, empty, pair, first, second, none, more, part, node, tokens, nesting, has, subset, apart, may_be_empty, starts, opens, goes_on, derives}
-use Rattle.cl_rules.specs.Fit.{ends, closes, fits}
-use Rattle.cl_rules.specs.Values.{Parts, value}
+use Rattle.cl_rules.specs.Fit.{ends, fits}
+use Rattle.cl_rules.specs.Values.{value}
 use Rattle.cl_rules.proofs.Bounds.{has_apart, has_subset, derivation_starts, derivation_ends, pair_parts, both_fits, either_fits, many_fits}
 use Rattle.cl_ast.specs.Plain.{PlainKind, PlainToken}
 use Rattle.cl_ast.specs.Classes.{class_of, kind_class}
 use Rattle.cl_ast.specs.Grammar.{Part, rules}
-use Rattle.cl_ast.specs.Grammar as parts
 use Rattle.cl_ast.specs.Tables.{language, bounds, firsts, lasts}
 use Rattle.cl_ast.specs.Trees.{tree_of, meaning}
 use Rattle.cl_ast.proofs.Fits.{grammar_fits}
-use Rattle.cl_print.specs.Expressions.{Row}
-use Rattle.cl_print.specs.Alike.{either_alike, all_alike, Alike}
+use Rattle.cl_print.specs.Alike.{Alike}
 use Rattle.cl_print.specs.Seen.{same}
-use Rattle.cl_print.specs.Says.{token_said, part_said, parts_said}
+use Rattle.cl_print.specs.Says.{token_said, parts_said}
 use Rattle.cl_print.proofs.Splitting.{kinds, kinds_append}
 
 -- the class of `else`, the only token with which a statement goes on

@@ -1,16 +1,14 @@
 -- The spelling that the text takes is one of the token.
-use Rattle.std.proofs.Common.{◌≡◌, ℕ, zero, suc, ◌<◌, ◌≤◌, ◌^◌, ℤ, pos, negsuc, Bool, true, false, not, ◌&&◌, ◌||◌, leb, eqb, List, [], ◌∷◌, map, Option, Some, None, decimal, refl, sym, ap, ◌∙◌, arith, inl, inr}
-use Rattle.std.specs.Prelude.{if◌then◌else◌, option_map}
-use Rattle.std.specs.Fmt.{signed_decimal}
+use Rattle.std.proofs.Common.{◌≡◌, ℕ, ◌≤◌, ℤ, pos, negsuc, Bool, true, false, ◌&&◌, leb, eqb, List, [], ◌∷◌, map, Option, Some, None, decimal, refl, ap, ◌∙◌, arith, inl, inr}
+use Rattle.std.specs.Prelude.{if◌then◌else◌}
 use Rattle.std.specs.List.{list_all}
-use Rattle.std.proofs.lemmas.Bool.{cases_Bool, and_from, and_parts, or_parts, leb-true, le-leb, cond-true, cond-false}
+use Rattle.std.proofs.lemmas.Bool.{cases_Bool, and_from, and_parts, leb-true, le-leb, cond-true}
 use Rattle.cl_ast.specs.declared.word.Word.{Word}
 use Rattle.cl_ast.specs.declared.word.Word.TheVariants as words
 use Rattle.cl_ast.specs.declared.mark.Mark.{Mark}
 use Rattle.cl_ast.specs.declared.mark.Mark.TheVariants as marks
 use Rattle.cl_ast.specs.Plain.{PlainKind, Name, Int, Long, Character, Str, Keyword, Reserved, Punctuator, Define}
-use Rattle.cl_ast.specs.Bytes.{escape_byte}
-use Rattle.cl_ast.specs.Lexemes.{Spelled, Itself, Escape, character_meaning, word_of, is_reserved, mark_of, word_or, letters_kind, is_letters, is_decimal, is_a_suffix, value_on, number_kind, fits_long, is_character, is_string_character, lexeme_kind, lexeme_goes_on, Sign, Letters}
+use Rattle.cl_ast.specs.Lexemes.{character_meaning, word_of, is_reserved, mark_of, word_or, letters_kind, is_letters, is_decimal, is_a_suffix, value_on, number_kind, fits_long, is_character, is_string_character, lexeme_kind, lexeme_goes_on, Sign}
 use Rattle.cl_ast.specs.Pieces.{is_name, is_name_kind}
 use Rattle.cl_print.specs.Spelling.{word_bytes, mark_bytes, in_string, in_character, lexeme_of}
 use Rattle.cl_print.specs.Sayable.{fits_int, is_long, is_sayable}

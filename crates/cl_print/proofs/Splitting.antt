@@ -1,17 +1,15 @@
 -- The bytes of a row of tokens are split into these tokens.
-use Rattle.std.proofs.Common.{◌≡◌, ℕ, ◌+◌, ◌==◌, Bool, true, false, not, ◌&&◌, ◌||◌, List, [], ◌∷◌, ◌++◌, map, length, Option, Some, None, codes, refl, sym, ap, subst, ◌∙◌, append_assoc, inl, inr}
-use Rattle.std.proofs.lemmas.List.{append-nil}
+use Rattle.std.proofs.Common.{◌≡◌, ℕ, ◌+◌, Bool, true, false, List, [], ◌∷◌, ◌++◌, map, length, refl, sym, ap, subst, ◌∙◌, append_assoc}
 use Rattle.std.specs.Prelude.{is_some}
 use Rattle.std.specs.List.{list_all}
-use Rattle.std.proofs.lemmas.Bool.{and_from, and_parts}
+use Rattle.std.proofs.lemmas.Bool.{and_parts}
 use Rattle.cl_ast.specs.declared.mark.Mark.{Mark}
 use Rattle.cl_ast.specs.declared.mark.Mark.TheVariants as marks
-use Rattle.cl_ast.specs.Plain.{PlainKind, Name, Punctuator, Define, PlainToken}
-use Rattle.cl_ast.specs.Bytes.{begins_with, is_line_end}
-use Rattle.cl_ast.specs.Lexemes.{Lexeme, lexeme_kind, lexeme_spelling, lexeme_goes_on}
-use Rattle.cl_ast.specs.Pieces.{Piece, Fills, Lexed, Defines, Separator, DefineLine, piece_spelling, is_piece, piece_goes_on, fresh_behind, piece_tokens, lexeme_tokens}
-use Rattle.cl_ast.specs.Splits.{IsFirst, Leads, tokens_of, Splits}
-use Rattle.cl_print.specs.Spelling.{Written, Blank, Line, Gap, gap_bytes, gap_behind, mark_gap, spaced, lexeme_of, spelling, text_of, line}
+use Rattle.cl_ast.specs.Plain.{PlainKind, Name, Punctuator, PlainToken}
+use Rattle.cl_ast.specs.Bytes.{begins_with}
+use Rattle.cl_ast.specs.Pieces.{Piece, Fills, Lexed, Separator, piece_spelling, fresh_behind, piece_tokens, lexeme_tokens}
+use Rattle.cl_ast.specs.Splits.{IsFirst, Leads, tokens_of}
+use Rattle.cl_print.specs.Spelling.{gap_bytes, gap_behind, mark_gap, lexeme_of, spelling, text_of, line}
 use Rattle.cl_print.specs.Sayable.{is_sayable}
 use Rattle.cl_print.proofs.Spelled.{sayable_spelled, quiet}
 

@@ -14,13 +14,13 @@ use Rattle.cl_ast.specs.declared.statement.Item.{Item}
 use Rattle.cl_ast.specs.declared.statement.Item.TheVariants as items
 use Rattle.cl_ast.specs.Plain as plain
 use Rattle.cl_ast.specs.Plain.{PlainKind, PlainToken}
-use Rattle.cl_ast.specs.Pieces.{Piece, Fills, Defines, Separator, DefineLine, is_literal_kind, is_define, is_name, define_spelling, head_spelling, lexeme_tokens, minus_tokens}
+use Rattle.cl_ast.specs.Pieces.{Piece, Fills, Defines, Separator, DefineLine, is_literal_kind, is_define, is_name, define_spelling, head_spelling, lexeme_tokens}
 use Rattle.cl_ast.specs.Lexemes.{lexeme_kind, lexeme_spelling}
-use Rattle.cl_ast.specs.Splits.{IsFirst, Leads, tokens_of, Splits}
+use Rattle.cl_ast.specs.Splits.{Leads, tokens_of, Splits}
 use Rattle.cl_print.specs.Spelling.{Written, spaced, lexeme_of, spelling, mark_bytes, text_of, line, one}
 use Rattle.cl_print.specs.Expressions.{mark, word, constant_kind, in_brackets, listed}
 use Rattle.cl_print.specs.Statements.{variables_kinds, block_kinds, in_order, stmt_line}
-use Rattle.cl_print.specs.Writing.{function_kinds, result_word, parameter_kinds, minus, define_written, item_written, written, canonical}
+use Rattle.cl_print.specs.Writing.{function_kinds, result_word, parameter_kinds, define_written, item_written, written, canonical}
 use Rattle.cl_print.specs.Sayable.{is_sayable}
 use Rattle.cl_print.proofs.Lines.{text_append}
 use Rattle.cl_print.proofs.StatementEquations.{block_is}

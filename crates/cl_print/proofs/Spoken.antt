@@ -1,16 +1,16 @@
 -- Derivations of an expression at each level from its own on, in brackets where it binds too loosely.
-use Rattle.std.proofs.Common.{◌≡◌, ℕ, zero, suc, ◌+◌, ◌-◌, ◌<◌, ◌≤◌, Bool, true, false, not, ◌&&◌, ◌||◌, ltb, List, [], ◌∷◌, ◌++◌, map, refl, sym, ap, ap₂, subst, ◌∙◌, arith, inl, inr}
+use Rattle.std.proofs.Common.{◌≡◌, ℕ, zero, suc, ◌+◌, ◌-◌, ◌<◌, ◌≤◌, true, false, not, ◌&&◌, ltb, List, [], ◌∷◌, ◌++◌, refl, sym, ap, subst, ◌∙◌, arith, inl, inr}
 use Rattle.std.proofs.lemmas.List.{append-nil}
-use Rattle.std.proofs.lemmas.Bool.{cases_Bool, and_from, and_parts, cond-true, cond-false}
-use Rattle.std.specs.Prelude.{max, nat_lt, if◌then◌else◌}
+use Rattle.std.proofs.lemmas.Bool.{cases_Bool, and_from, cond-true, cond-false}
+use Rattle.std.specs.Prelude.{max}
 use Rattle.cl_rules.specs.Rules.{clear}
-use Rattle.cl_rules.specs.Syntax.{Rule, Symbol, Derivation, leaf, empty, pair, first, second, none, more, part, node, tokens, nesting, has, Language, goes_on, derives}
+use Rattle.cl_rules.specs.Syntax.{Symbol, Derivation, leaf, pair, first, second, none, part, node, tokens, nesting, has, goes_on, derives}
 use Rattle.cl_rules.specs.Values.{value}
 use Rattle.cl_rules.proofs.Laws.{clear_none}
 use Rattle.cl_rules.proofs.Bounds.{derivation_ends}
 use Rattle.cl_ast.specs.declared.mark.Mark.TheVariants as marks
 use Rattle.cl_ast.specs.declared.tree.Expr.{Expr}
-use Rattle.cl_ast.specs.Plain.{PlainKind, PlainToken, Punctuator}
+use Rattle.cl_ast.specs.Plain.{PlainToken, Punctuator}
 use Rattle.cl_ast.specs.Classes.{class_of, sample}
 use Rattle.cl_ast.specs.Grammar.{Part, rules}
 use Rattle.cl_ast.specs.Grammar as parts
@@ -18,7 +18,7 @@ use Rattle.cl_ast.specs.Tables.{language, bounds, lasts}
 use Rattle.cl_ast.specs.Trees.{meaning}
 use Rattle.cl_ast.proofs.Fits.{grammar_fits}
 use Rattle.cl_print.specs.Spelling.{one}
-use Rattle.cl_print.specs.Expressions.{Said, Row, mark, in_brackets, operand, expr_said}
+use Rattle.cl_print.specs.Expressions.{Row, in_brackets, operand, expr_said}
 use Rattle.cl_print.specs.Seen.{SameExpr}
 use Rattle.cl_print.proofs.Splitting.{kinds, kinds_append}
 

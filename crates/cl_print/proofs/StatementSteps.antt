@@ -1,42 +1,40 @@
 -- Each part of a statement or a declaration, and each item, is derived as it is written, where its own parts are.
-use Rattle.std.proofs.Common.{◌≡◌, ℕ, zero, suc, ◌+◌, ◌<◌, ◌≤◌, Bool, true, false, not, ◌&&◌, ◌||◌, List, [], ◌∷◌, ◌++◌, map, Option, Some, None, refl, sym, ap, ap₂, subst, ◌∙◌, arith, inl, inr, append_assoc}
-use Rattle.std.specs.Prelude.{◌⊎◌, max}
-use Rattle.std.proofs.lemmas.Bool.{cases_Bool, and_from, and_parts}
-use Rattle.cl_rules.specs.Rules.{clear, is_empty}
-use Rattle.cl_rules.specs.Syntax.{Rule, Token, Nothing, Both, Either, Many, Counted, Symbol, ◌⨾◌, ◌∣◌, maybe, Derivation, leaf, empty, pair, first, second, none, more, part, node, tokens, nesting, has, goes_on, derives}
-use Rattle.cl_rules.specs.Values.{Parts, value}
+use Rattle.std.proofs.Common.{◌≡◌, ℕ, ◌≤◌, true, false, not, ◌&&◌, List, [], ◌∷◌, ◌++◌, map, Some, refl, sym, ap, ap₂, ◌∙◌, arith, inl, inr, append_assoc}
+use Rattle.std.specs.Prelude.{◌⊎◌}
+use Rattle.std.proofs.lemmas.Bool.{and_from, and_parts}
+use Rattle.cl_rules.specs.Rules.{clear}
+use Rattle.cl_rules.specs.Syntax.{Nothing, Both, Symbol, Derivation, leaf, empty, pair, first, second, part, node, tokens, nesting, has, goes_on, derives}
+use Rattle.cl_rules.specs.Values.{value}
 use Rattle.cl_rules.proofs.Laws.{clear_none}
 use Rattle.cl_rules.proofs.Bounds.{has_apart, pair_parts}
 use Rattle.cl_ast.proofs.Fits.{grammar_fits}
 use Rattle.cl_ast.specs.declared.word.Word.TheVariants as words
 use Rattle.cl_ast.specs.declared.mark.Mark.TheVariants as marks
 use Rattle.cl_ast.specs.declared.tree.TypeName.TheVariants as types
-use Rattle.cl_ast.specs.declared.tree.Place.{Place, roll-Place}
+use Rattle.cl_ast.specs.declared.tree.Place.{Place}
 use Rattle.cl_ast.specs.declared.statement.Parameter.{Parameter}
-use Rattle.cl_ast.specs.declared.statement.Variables.{Variables}
 use Rattle.cl_ast.specs.declared.statement.Declarator.{Declarator}
 use Rattle.cl_ast.specs.declared.statement.Block.{Block}
 use Rattle.cl_ast.specs.Plain as plain
 use Rattle.cl_ast.specs.Plain.{PlainKind, PlainToken}
-use Rattle.cl_ast.specs.Classes.{class_of, kind_class, mark_class, word_class, mark_classes, word_classes, sample}
+use Rattle.cl_ast.specs.Classes.{class_of, mark_class, word_class, mark_classes, sample}
 use Rattle.cl_ast.specs.Grammar.{Part, rules}
 use Rattle.cl_ast.specs.Grammar as parts
 use Rattle.cl_ast.specs.Tables.{language, bounds, lasts}
-use Rattle.cl_ast.specs.Trees.{tree_of, meaning, build, Index, Given, kind_type, index_value, span_of, place_span, token_bytes, to_name, to_place, to_step, is_decrement, to_assign, to_simple, behind_marks, listed, to_parameters, to_params, to_function, to_declarator, to_variables, to_typed, to_item}
+use Rattle.cl_ast.specs.Trees.{meaning, build, Given, kind_type, index_value, span_of, place_span, token_bytes, to_name, to_step, is_decrement, to_assign, behind_marks, to_parameters, to_function, to_declarator, to_variables}
 use Rattle.cl_print.specs.Spelling.{one}
 use Rattle.cl_print.specs.Expressions.{Row, mark, behind_commas}
-use Rattle.cl_print.specs.Statements.{type_word, declarator_kinds, variables_kinds, stmt_line}
+use Rattle.cl_print.specs.Statements.{type_word, declarator_kinds, variables_kinds}
 use Rattle.cl_print.specs.Writing.{parameter_kinds, function_kinds, define_written, item_written}
-use Rattle.cl_print.specs.Bare.{bare_place}
-use Rattle.cl_print.specs.Seen.{same, SameStmt, Tells}
-use Rattle.cl_print.specs.Says.{part_said, parts_said, all_said, either_said, step_said}
+use Rattle.cl_print.specs.Seen.{SameStmt}
+use Rattle.cl_print.specs.Says.{part_said, parts_said, all_said, either_said}
 use Rattle.cl_print.proofs.Splitting.{kinds, kinds_append}
 use Rattle.cl_print.proofs.SplittingItems.{written_kinds, spaced_kinds}
 use Rattle.cl_print.proofs.Spoken.{quiet_before}
-use Rattle.cl_print.proofs.Replace.{else_class, Settled, Written, apart_clear, replace, not_both}
+use Rattle.cl_print.proofs.Replace.{Settled, apart_clear, not_both}
 use Rattle.cl_print.proofs.Settled.{mark_only, word_only, name_only, text_only, define_only, literal_only, size_only, type_only, verb_only, change_only, step_only, leave_only}
 use Rattle.cl_print.proofs.Builds.{place_alike}
-use Rattle.cl_print.proofs.BuildsStatements.{builds, to_assign_alike, function_alike}
+use Rattle.cl_print.proofs.BuildsStatements.{to_assign_alike, function_alike}
 use Rattle.cl_print.proofs.PartsSaid.{commas_said}
 use Rattle.cl_print.proofs.PartsSaidStatements.{Ends, started_are, others_are, assigned_said, stepped_said, simple_ends, statement_are, block_are, plain_are, given_are, given_said, declarator_are, variables_are}
 use Rattle.cl_print.proofs.Canon.{Canon, Within, some_tokens}

@@ -1,5 +1,5 @@
 -- Trees without the places of their parts: two trees are the same but for their places where these are the same. (This project.)
-use Rattle.std.specs.Prelude.{ℕ, List, [], ◌∷◌, map, Option, Some, None, option_map}
+use Rattle.std.specs.Prelude.{List, map, option_map}
 use Rattle.cl_ast.specs.declared.span.Span.{Span}
 use Rattle.cl_ast.specs.declared.tree.Name.{Name}
 use Rattle.cl_ast.specs.declared.tree.Literal.{Literal}
@@ -7,7 +7,7 @@ use Rattle.cl_ast.specs.declared.tree.Text.{Text}
 use Rattle.cl_ast.specs.declared.tree.Spanned.{Spanned}
 use Rattle.cl_ast.specs.declared.tree.Expr.{Expr}
 use Rattle.cl_ast.specs.declared.tree.Expr.TheVariants as exprs
-use Rattle.cl_ast.specs.declared.tree.Expr.TheOpen.{Expr-F, Field-F, Call-F, Chain-F, Formal-F, Link-F, Operation-F, Place-F, Prefix-F}
+use Rattle.cl_ast.specs.declared.tree.Expr.TheOpen.{Expr-F, Field-F}
 use Rattle.cl_ast.specs.declared.tree.Field.{Field}
 use Rattle.cl_ast.specs.declared.tree.Field.TheVariants as field_forms
 use Rattle.cl_ast.specs.declared.tree.Call.{Call, roll-Call}
@@ -19,7 +19,7 @@ use Rattle.cl_ast.specs.declared.tree.Place.{Place, roll-Place}
 use Rattle.cl_ast.specs.declared.tree.Prefix.{Prefix, roll-Prefix}
 use Rattle.cl_ast.specs.declared.statement.Stmt.{Stmt}
 use Rattle.cl_ast.specs.declared.statement.Stmt.TheVariants as stmts
-use Rattle.cl_ast.specs.declared.statement.Stmt.TheOpen.{Stmt-F, Block-F, Do-F, For-F, If-F, While-F}
+use Rattle.cl_ast.specs.declared.statement.Stmt.TheOpen.{Stmt-F}
 use Rattle.cl_ast.specs.declared.statement.Block.{Block, roll-Block}
 use Rattle.cl_ast.specs.declared.statement.Do.{Do, roll-Do}
 use Rattle.cl_ast.specs.declared.statement.For.{For, roll-For}
@@ -41,7 +41,7 @@ use Rattle.cl_ast.specs.declared.statement.Parameter.{Parameter}
 use Rattle.cl_ast.specs.declared.statement.Function.{Function}
 use Rattle.cl_ast.specs.declared.statement.Item.{Item}
 use Rattle.cl_ast.specs.declared.statement.Item.TheVariants as items
-use Rattle.cl_print.specs.Folds.{ExprSteps, fold_expr, fold_field, fold_call, fold_chain, fold_formal, fold_link, fold_operation, fold_place, fold_prefix, StmtSteps, fold_stmt, fold_block}
+use Rattle.cl_print.specs.Folds.{ExprSteps, fold_expr, fold_field, fold_call, fold_operation, fold_place, StmtSteps, fold_stmt, fold_block}
 
 abbrev pub nowhere : Span
 nowhere = record { start = 0; end = 0 }

@@ -1,5 +1,5 @@
 -- Which tokens the canonical spelling leads back to. (This project.)
-use Rattle.std.specs.Prelude.{ℕ, ℤ, pos, negsuc, Bool, true, false, nat_le}
+use Rattle.std.specs.Prelude.{ℤ, pos, negsuc, Bool, true, false, nat_le}
 use Rattle.std.specs.List.{list_all}
 use Rattle.cl_ast.specs.Plain.{PlainKind, Name, Int, Long, Character, Str, Keyword, Reserved, Punctuator, Define}
 use Rattle.cl_ast.specs.Lexemes.{fits_long, is_character, is_string_character}

@@ -10,7 +10,7 @@ use Rattle.cl_ast.specs.Plain.{PlainKind, PlainToken}
 use Rattle.cl_ast.specs.Grammar.{Part}
 use Rattle.cl_ast.specs.Grammar as parts
 use Rattle.cl_ast.specs.Trees.{tree_of, kind_bytes, kind_constant, kind_type, kind_verb, is_decrement}
-use Rattle.cl_print.specs.Expressions.{Row, mark, word, constant_kind, verb_word, in_brackets, operand, listed, all_kinds, expr_said, field_kinds, place_kinds}
+use Rattle.cl_print.specs.Expressions.{Row, mark, constant_kind, verb_word, in_brackets, operand, listed, all_kinds, expr_said, field_kinds, place_kinds}
 use Rattle.cl_print.specs.Statements.{type_word, form_kinds, declarator_kinds, variables_kinds, closed, stmt_line, block_kinds}
 use Rattle.cl_print.specs.Writing.{parameter_kinds, item_written}
 

@@ -1,5 +1,5 @@
 -- When two trees are the same but for their places, and so are their texts. (This project.)
-use Rattle.std.specs.Prelude.{◌≡◌, List}
+use Rattle.std.specs.Prelude.{◌≡◌}
 use Rattle.cl_ast.specs.declared.tree.Expr.{Expr}
 use Rattle.cl_ast.specs.declared.tree.Link.{Link}
 use Rattle.cl_ast.specs.declared.tree.Field.{Field}
