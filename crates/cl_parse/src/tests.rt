@@ -481,8 +481,28 @@ fn increments(stmt: &Stmt) -> bool {
     }
 }
 
-/// Whether the source's first item is a function whose first statement passes the test.
-fn first_is(alloc: Global, source: &[u8], test: impl Fn(&Stmt) -> bool) -> bool {
+/// A form of a statement.
+#[derive(Clone, Copy)]
+enum Shape {
+    Dangling,
+    Chain,
+    LeastInt,
+    SumOfProduct,
+    Increment,
+}
+
+fn has(shape: Shape, stmt: &Stmt) -> bool {
+    match shape {
+        Shape::Dangling => is_dangling(stmt),
+        Shape::Chain => sets_a_chain(stmt),
+        Shape::LeastInt => sets_the_least_int(stmt),
+        Shape::SumOfProduct => sets_a_sum_of_a_product(stmt),
+        Shape::Increment => increments(stmt),
+    }
+}
+
+/// Whether the source's first item is a function whose first statement has the form.
+fn first_is(alloc: Global, source: &[u8], shape: Shape) -> bool {
     if source.len() > 1048576 {
         return false;
     }
@@ -494,25 +514,32 @@ fn first_is(alloc: Global, source: &[u8], test: impl Fn(&Stmt) -> bool) -> bool 
     };
     match unit.items.get(0) {
         Some(Item::Function(function)) => match function.body.statements.get(0) {
-            Some(stmt) => test(stmt),
+            Some(stmt) => has(shape, stmt),
             None => false,
         },
         _ => false,
     }
 }
 
+/// Sources, a form, and whether the first statement of each has it.
+const SHAPES: &[(&[u8], Shape, bool)] = &[
+    (b"f(){if(a)if(b)x=1;else x=2;}", Shape::Dangling, true),
+    (b"f(){if(a){if(b)x=1;}else x=2;}", Shape::Dangling, false),
+    (b"f(){x=a-b-c;}", Shape::Chain, true),
+    (b"f(){x=a-(b-c);}", Shape::Chain, false),
+    (b"f(){x=(a-b)-c;}", Shape::Chain, false),
+    (b"f(){x=-2147483648;}", Shape::LeastInt, true),
+    (b"f(){x=a+b*c;}", Shape::SumOfProduct, true),
+    (b"f(){x=(a+b)*c;}", Shape::SumOfProduct, false),
+    (b"f(){++x;}", Shape::Increment, true),
+    (b"f(){x++;}", Shape::Increment, true),
+    (b"f(){x--;}", Shape::Increment, false),
+];
+
 fn check_trees(rt: &impl Abort, alloc: Global) {
-    assert!(rt; first_is(alloc, b"f(){if(a)if(b)x=1;else x=2;}", is_dangling));
-    assert!(rt; !first_is(alloc, b"f(){if(a){if(b)x=1;}else x=2;}", is_dangling));
-    assert!(rt; first_is(alloc, b"f(){x=a-b-c;}", sets_a_chain));
-    assert!(rt; !first_is(alloc, b"f(){x=a-(b-c);}", sets_a_chain));
-    assert!(rt; !first_is(alloc, b"f(){x=(a-b)-c;}", sets_a_chain));
-    assert!(rt; first_is(alloc, b"f(){x=-2147483648;}", sets_the_least_int));
-    assert!(rt; first_is(alloc, b"f(){x=a+b*c;}", sets_a_sum_of_a_product));
-    assert!(rt; !first_is(alloc, b"f(){x=(a+b)*c;}", sets_a_sum_of_a_product));
-    assert!(rt; first_is(alloc, b"f(){++x;}", increments));
-    assert!(rt; first_is(alloc, b"f(){x++;}", increments));
-    assert!(rt; !first_is(alloc, b"f(){x--;}", increments));
+    for (source, shape, wanted) in SHAPES {
+        assert!(rt; first_is(alloc, source, *shape) == *wanted, "{source:?}");
+    }
 }
 
 #[test]

@@ -1,0 +1,9 @@
+pub mod Suits
+pub mod Fields
+pub mod Found
+pub mod Kept
+pub mod Rising
+pub mod Replies
+pub mod Served
+pub mod Steps
+pub mod Turns

@@ -1,0 +1,15 @@
+pub mod Apart
+pub mod Sums
+pub mod Keeps
+pub mod Cuts
+pub mod Draws
+pub mod Marks
+pub mod Moves
+pub mod Halts
+pub mod Closes
+pub mod Counts
+pub mod Rising
+pub mod Points
+pub mod Told
+pub mod Places
+pub mod Shapes

@@ -1,0 +1,9 @@
+pub mod Weights
+pub mod Persons
+pub mod Codes
+pub mod Rule
+pub mod Steps
+pub mod Starts
+pub mod Tokens
+pub mod Seats
+pub mod Points

@@ -1,0 +1,62 @@
+-- What a closed table tells of all processes and all sets, in plain words. (This project.)
+use Rattle.std.specs.Prelude.{◌≡◌, ℕ, suc, ◌+◌, ◌<◌, ◌≤◌, eqb, nat_lt, if◌then◌else◌, true, List, map, Contains}
+use mathlib.Core.List.{IsPrefix}
+use Rattle.cl_value.specs.Plain.{PlainAct, PlainHistory, Lives}
+use Rattle.cl_value.specs.Acts.{is_eval, acts_of}
+use Rattle.cl_value.specs.Tickets.{by_ticket}
+use Rattle.cl_ticket.specs.Weights.{weigh, Each}
+use Rattle.cl_ticket.specs.Persons.{Birth, Mark, Born, Person}
+use Rattle.cl_ticket.specs.Rule.{if_eval, name_of, depth_of, Rises}
+use Rattle.cl_ticket.specs.Steps.{tickets_of}
+use Rattle.cl_ticket.specs.Starts.{start_of, live_of}
+
+-- 1 where the numbers are equal
+abbrev pub is : ℕ → ℕ → ℕ
+is x k = if_eval (eqb k x) 1
+
+-- how often a number stands in a list
+abbrev pub times : ℕ → List ℕ → ℕ
+times x ks = weigh (is x) ks
+
+abbrev pub names_of : List Person → List ℕ
+names_of people = map (λ (p : Person). name_of p.origin) people
+
+-- each number once at most
+abbrev pub Differ : List ℕ → Type 0
+Differ ks = (x : ℕ) → times x ks ≤ 1
+
+-- each number as often in the one as in the other
+abbrev pub SameNumbers : List ℕ → List ℕ → Type 0
+SameNumbers ks ls = (x : ℕ) → times x ks ≡ times x ls
+
+-- the numbers below n, each once
+abbrev pub AreBelow : ℕ → List ℕ → Type 0
+AreBelow n ks = (x : ℕ) → times x ks ≡ if nat_lt x n then 1 else 0
+
+-- each person's acts are those of its name in the history of all sets, and their tickets rise, all above its name
+abbrev pub OwnActs : List PlainHistory → List Person → Type 0
+OwnActs sets people = Each (λ (p : Person). (p.acts ≡ acts_of (name_of p.origin) (by_ticket sets)) × Rises (name_of p.origin) p.acts) people
+
+-- each act's process is one of these persons
+abbrev pub HaveOwners : List PlainHistory → List Person → Type 0
+HaveOwners sets people = Each (λ (a : PlainAct). 1 ≤ times a.proc (names_of people)) (by_ticket sets)
+
+-- a person begins with the site and the live tuple of an eval that one of these persons did, and is one deeper than it
+abbrev pub IsMadeBy : List Person → Person → Type 0
+IsMadeBy people p = (b : Birth) × (q : Person) × (p.origin ≡ Born b) × (start_of p.origin ≡ Lives b.act.site (live_of b.act.what) b.depth) × Contains people q × Contains q.acts b.act × (is_eval b.act.what ≡ true) × (b.depth ≡ suc (depth_of q.origin))
+
+-- where a person is marked as one that met a full set, the acts of the mark are the first acts of that set
+abbrev pub FullMarks : List PlainHistory → List Person → Type 0
+FullMarks sets people = Each (λ (p : Person). Each (λ (m : Mark). Each (λ (s : PlainHistory). s.set ≡ m.set → IsPrefix m.acts s.acts) sets) p.full) people
+
+-- a failed person leaves a name in word 1, and what a person saw there is that name
+abbrev pub HaltMarks : ℕ → List Person → Type 0
+HaltMarks halt people = Each (λ (p : Person). (p.failed ≡ true → 0 < halt) × Each (λ (q : ℕ). halt ≡ suc q) p.saw) people
+
+-- the name in word 1 is that of a person that failed
+abbrev pub IsHalter : ℕ → List Person → Type 0
+IsHalter halt people = 0 < halt → (p : Person) × Contains people p × (p.failed ≡ true) × (halt ≡ suc (name_of p.origin))
+
+-- the tickets of all these persons' acts, and 0, are the numbers below the next one, each once
+abbrev pub DrawnOnce : ℕ → List Person → Type 0
+DrawnOnce next people = (x : ℕ) → is x 0 + weigh (λ (p : Person). times x (tickets_of p.acts)) people ≡ if nat_lt x next then 1 else 0
