@@ -8,7 +8,9 @@ use Rattle.cl_model.specs.declared.small.Format.TheVariants as formats
 use Rattle.cl_model.specs.Demand.{Finishes}
 use Rattle.cl_model.specs.Tokens.{Token, Name, IntWord, OutWord, InWord, Number, Str, OpenBracket, CloseBracket, OpenBrace, CloseBrace, Comma, Semicolon, Question}
 use Rattle.cl_model.specs.Places.{Context, in_place, behind, at_front, is_closed}
-use Rattle.cl_model.specs.Refusals.{not_built}
+use Rattle.cl_model.specs.declared.refusal.Refusal.{Refusal}
+use Rattle.cl_model.specs.declared.refusal.RefusalKind.TheVariants as refusals
+use Rattle.cl_model.specs.Refusals.{refused}
 use Rattle.cl_model.specs.Small.{PlainItem, Text, Literal, Formal, Declare, DoOut, DoInp, Print, keeps_rules}
 use Rattle.cl_model.specs.SmallMeaning.{small_demands, saying}
 
@@ -64,10 +66,10 @@ closed = refl
 pub nothing_follows : in_place (told begun (CloseBrace ∷ [])) Semicolon ≡ false
 nothing_follows = refl
 
-pub place_of_the_variable : not_built (codes "real_main(){out(\"x\",y);}") 20 ≡ codes "refused NotBuilt at " ++ (decimal 1 ++ codes ":" ++ decimal 21) ++ codes "\n"
+pub place_of_the_variable : refused (codes "real_main(){out(\"x\",y);}") (record { kind = refusals.NotBuilt; place = 20 }) ≡ codes "refused NotBuilt at " ++ (decimal 1 ++ codes ":" ++ decimal 21) ++ codes "\n"
 place_of_the_variable = refl
 
-pub place_of_nothing : not_built [] 0 ≡ codes "refused NotBuilt at " ++ (decimal 1 ++ codes ":" ++ decimal 1) ++ codes "\n"
+pub place_of_nothing : refused [] (record { kind = refusals.NotBuilt; place = 0 }) ≡ codes "refused NotBuilt at " ++ (decimal 1 ++ codes ":" ++ decimal 1) ++ codes "\n"
 place_of_nothing = refl
 
 -- ---- meanings

@@ -1,7 +1,10 @@
--- The text of a refusal, and the lines and columns of a source. (This project.)
+-- The texts of refusals, and the lines and columns of a source. (This project.)
 use Rattle.std.specs.Prelude.{ℕ, ◌+◌, ◌==◌, if◌then◌else◌, List, [], ◌∷◌, ◌++◌, codes, take}
 use Rattle.std.specs.Fmt.{decimal}
 use Rattle.cl_value.specs.Text.{line}
+use Rattle.cl_model.specs.declared.refusal.Refusal.{Refusal}
+use Rattle.cl_model.specs.declared.refusal.RefusalKind.{RefusalKind}
+use Rattle.cl_model.specs.declared.refusal.RefusalKind.TheVariants as kinds
 
 -- the line of what follows these bytes, from a line on: lines end at LF
 abbrev pub line_from : ℕ → List ℕ → ℕ
@@ -25,6 +28,17 @@ words_refused = line (codes "words refused")
 abbrev pub too_large : List ℕ
 too_large = line (codes "refused TooLarge")
 
--- the source isn't of the form that is built, and this is the place
-abbrev pub not_built : List ℕ → ℕ → List ℕ
-not_built source place = line (codes "refused NotBuilt at " ++ place_text source place)
+-- the name of a kind of refusal
+abbrev pub kind_word : RefusalKind → List ℕ
+kind_word kinds.BadByte = codes "BadByte"
+kind_word kinds.OpenString = codes "OpenString"
+kind_word kinds.OpenComment = codes "OpenComment"
+kind_word kinds.WideLiteral = codes "WideLiteral"
+kind_word kinds.BadDirective = codes "BadDirective"
+kind_word kinds.Syntax = codes "Syntax"
+kind_word kinds.TooDeep = codes "TooDeep"
+kind_word kinds.NotBuilt = codes "NotBuilt"
+
+-- the source is refused so
+abbrev pub refused : List ℕ → Refusal → List ℕ
+refused source refusal = line (codes "refused " ++ kind_word refusal.kind ++ codes " at " ++ place_text source refusal.place)

@@ -33,6 +33,14 @@ impl<R> ReaderSource<R> {
     {
         ReaderSource { reader, faults: 0 }
     }
+
+    /// The reader again.
+    pub fn into_inner(self) -> R
+        ensures { result ≡ self.inner }
+    {
+        let ReaderSource { reader, faults: _ } = self;
+        reader
+    }
 }
 
 impl<R: Read + Drop> Source for ReaderSource<R> {

@@ -16,4 +16,8 @@ pub mod PlaceUnits
 pub mod PlaceLaws
 pub mod Numbers
 pub mod Sayings
+pub mod Makes
+pub mod Refused
+pub mod Outcomes
+pub mod FrontLaws
 pub mod Clauses

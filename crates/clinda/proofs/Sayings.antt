@@ -1,22 +1,11 @@
 -- From what was said to what became of a call.
 use Rattle.std.proofs.Common.{◌≡◌, ◌≢◌, ℕ, ◌≤◌, List, length, take, Option, sym, subst, ◌∙◌, arith, inl, inr, Err, take_all}
 use Rattle.std.specs.Prelude.{Result, ◌⊎◌}
-use Rattle.cl_value.specs.Plain.{PlainRun}
-use Rattle.cl_model.specs.Refusals.{not_built}
-use Rattle.cl_model.specs.Small.{PlainItem}
 use Rattle.cl_outside.specs.declared.reading.ReadEnd.{ReadEnd}
 use Rattle.cl_outside.specs.declared.reading.ReadEnd.TheVariants as read_ends
 use Rattle.clinda.specs.Saying.{Said, Whole, Part}
 use Rattle.cl_outside.specs.Faults.{Rose, Quiet}
 use Rattle.cl_outside.specs.Streams.{Appends}
-use Rattle.clinda.specs.Answering.{text_of, Telling, Told, Refusal, Shown}
-
-pub told : (items : List PlainItem) (run : PlainRun) (text : List ℕ) (status : ℕ) (before after : Option (List ℕ)) (f g : ℕ) → text ≡ text_of items run → Said text run.status status before after f g → Telling items run status before after f g
-told items run text status before after f g same said = Told (subst (λ t. Said t run.status status before after f g) same said)
-
-pub shown : (source : List ℕ) (place : ℕ) (text : List ℕ) (said_status status : ℕ) (before after : Option (List ℕ)) (f g : ℕ) → text ≡ not_built source place → status ≡ said_status → Said text 2 said_status before after f g → Refusal source place status before after f g
-shown source place text said_status status before after f g same is said =
-    subst (λ s. Refusal source place s before after f g) (sym is) (Shown (subst (λ t. Said t 2 said_status before after f g) same said))
 
 -- a read that didn't fail left the count
 pub left_count : {T : Type 0} (r : Result T ReadEnd) (f g : ℕ) → (r ≡ Err read_ends.Fault ⊎ (g ≡ f)) → (r ≡ Err read_ends.Fault → ⊥) → g ≡ f

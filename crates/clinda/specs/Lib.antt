@@ -7,6 +7,10 @@ pub mod ReadingTokens
 pub mod ReadingViews
 pub mod Reading
 pub mod ReadingEnds
+pub mod Front
+pub mod Making
+pub mod FrontEnds
+pub mod Ran
 pub mod Saying
 pub mod Answering
 pub mod Top

@@ -1,10 +1,22 @@
 -- How a text is written at the end of a call. (This project.)
-use Rattle.std.specs.Prelude.{ℕ, ◌≡◌, ◌<◌, List, length, take, Option}
+use Rattle.std.specs.Prelude.{ℕ, ◌≡◌, ◌<◌, List, length, take, Option, Some, None}
 use Rattle.cl_outside.specs.Faults.{Rose}
 use Rattle.cl_outside.specs.Streams.{Appends}
+use Rattle.clinda.specs.declared.outcome.Saying.{Saying}
 
 -- The text was written whole, and the status is the one that was found; or a write failed, a front of the
 -- text was written, and the status is 5.
 pub data Said (text : List ℕ) (found status : ℕ) (before after : Option (List ℕ)) (faults_before faults_after : ℕ) : Type 0 where
   Whole : status ≡ found → Appends before text after → faults_after ≡ faults_before → Said text found status before after faults_before faults_after
   Part : (n : ℕ) → n < length text → status ≡ 5 → Appends before (take n text) after → Rose faults_before faults_after → Said text found status before after faults_before faults_after
+
+-- memory ran out for what was to be said: nothing was written, and no write failed
+pub record Unsaid (status : ℕ) (before after : Option (List ℕ)) (faults_before faults_after : ℕ) : Type 0 where
+  pub memory : status ≡ 8
+  pub same : after ≡ before
+  pub quiet : faults_after ≡ faults_before
+
+-- what was to be said was said, where memory was there for it
+abbrev pub Tells : Option Saying → ℕ → Option (List ℕ) → Option (List ℕ) → ℕ → ℕ → Type 0
+Tells None status before after faults_before faults_after = Unsaid status before after faults_before faults_after
+Tells (Some saying) status before after faults_before faults_after = Said saying.text saying.status status before after faults_before faults_after

@@ -1,22 +1,16 @@
--- The clauses of the top call. (This project.)
-use Rattle.std.specs.Prelude.{ℕ, ◌≡◌, ◌≢◌, ◌≤◌, ◌<◌, ◌⊎◌, false, List, length, take, drop, Option, Some, None, IfSome, IsSome, IsSomeAnd}
+-- The clauses of the top call. They speak of the command that the words spell; what that command reads a source
+-- as, when it refuses one and what it makes of one is told in Making.antt. (This project.)
+use Rattle.std.specs.Prelude.{ℕ, ◌≡◌, ◌≢◌, ◌+◌, ◌≤◌, ◌<◌, ◌⊎◌, true, false, List, [], ◌∷◌, length, take, drop, Option, Some, None, IfSome, IsSome}
 use Rattle.cl_value.specs.Plain.{PlainRun}
-use Rattle.cl_value.specs.Tickets.{by_ticket}
 use Rattle.cl_outside.specs.Faults.{Rose, Quiet}
-use Rattle.cl_outside.specs.Streams.{Appends}
-use Rattle.cl_model.specs.Commands.{Command, Spells, SpellsNone}
-use Rattle.cl_model.specs.Ends.{Stuck}
-use Rattle.cl_model.specs.Good.{GoodRun, Turns, some_failure}
-use Rattle.cl_model.specs.Places.{IsRefusedAt}
-use Rattle.cl_model.specs.Refusals.{words_refused, too_large, not_built}
-use Rattle.cl_model.specs.Small.{PlainItem, Accepted}
-use Rattle.cl_model.specs.SmallMeaning.{small_demands, small_sets}
-use Rattle.clinda.specs.Saying.{Said}
-use Rattle.clinda.specs.Answering.{Outside, HasNoUnit, text_of}
-
--- a text was said with a status
-abbrev pub Says : List ℕ → ℕ → ℕ → Outside → Outside → Type 0
-Says text found status before after = Said text found status before.written after.written before.write_faults after.write_faults
+use Rattle.cl_outside.specs.Streams.{Appends, LosesUpTo}
+use Rattle.cl_model.specs.declared.refusal.Refusal.{Refusal}
+use Rattle.cl_model.specs.Commands.{Command, Spells, SpellsNone, most_bytes, does_run, statuses, IsListed}
+use Rattle.cl_model.specs.Good.{some_failure}
+use Rattle.cl_model.specs.Refusals.{words_refused, too_large, refused}
+use Rattle.clinda.specs.Making.{Program, IsProgram, Refuses, Makes, IsGoodRun, IsStuck, HasNone}
+use Rattle.clinda.specs.Answering.{Outside, Says}
+use Rattle.clinda.specs.declared.outcome.Saying.{Saying}
 
 -- the words are refused, and nothing is read
 pub record RefusesWords (status : ℕ) (report : Option PlainRun) (before after : Outside) : Type 0 where
@@ -30,9 +24,9 @@ pub record WordsClause (words : List (List ℕ)) (status : ℕ) (report : Option
   pub refused : SpellsNone words → RefusesWords status report before after
   pub only : status ≡ 1 → SpellsNone words
 
--- the call reads: its words spell a command, no read failed, and the answer isn't want of memory without a report
-pub record Reads (words : List (List ℕ)) (status : ℕ) (report : Option PlainRun) (before after : Outside) : Type 0 where
-  pub command : Command
+-- the call reads: its words spell the command, no read failed, and the answer isn't want of memory without a
+-- report
+pub record Reads (words : List (List ℕ)) (command : Command) (status : ℕ) (report : Option PlainRun) (before after : Outside) : Type 0 where
   pub spelled : Spells words command
   pub quiet : Quiet before.read_faults after.read_faults
   pub memory : status ≡ 8 → report ≡ None → ⊥
@@ -40,70 +34,81 @@ pub record Reads (words : List (List ℕ)) (status : ℕ) (report : Option Plain
 -- what was left was read to its end, or one byte more than the limit
 abbrev pub ReadClause : List (List ℕ) → ℕ → Option PlainRun → Outside → Outside → Type 0
 ReadClause words status report before after =
-    Reads words status report before after → IfSome before.left (λ source. after.left ≡ Some (drop 1048577 source))
+    (command : Command) → Reads words command status report before after → IfSome before.left (λ source. after.left ≡ Some (drop (most_bytes command + 1) source))
 
 -- a source of more bytes than the limit is refused
 abbrev pub TooLargeClause : List (List ℕ) → ℕ → Option PlainRun → Outside → Outside → Type 0
 TooLargeClause words status report before after =
-    Reads words status report before after → IfSome before.left (λ source. 1048576 < length source → (report ≡ None) × Says too_large 2 status before after)
+    (command : Command) → Reads words command status report before after
+    → IfSome before.left (λ source. most_bytes command < length source → (report ≡ None) × Says too_large 2 status before after)
 
--- a source without a unit is refused at its first token that isn't in place, or at its end where it ends
--- before its last `}`
-pub record RefusesSource (source : List ℕ) (status : ℕ) (report : Option PlainRun) (before after : Outside) : Type 0 where
+-- a source is refused as the command refuses it
+pub record RefusesSource (command : Command) (source : List ℕ) (status : ℕ) (report : Option PlainRun) (before after : Outside) : Type 0 where
   pub no_run : report ≡ None
-  pub place : ℕ
-  pub first : IsRefusedAt source place
-  pub said : Says (not_built source place) 2 status before after
+  pub refusal : Refusal
+  pub cause : Refuses command source refusal
+  pub said : Says (refused source refusal) 2 status before after
 
--- status 2 comes, for a source within the limit, exactly where it has no unit; and it has none exactly where
--- there is a place at which it is refused, which is the only one
-pub record JudgesSource (source : List ℕ) (status : ℕ) (report : Option PlainRun) (before after : Outside) : Type 0 where
-  pub refused : HasNoUnit source → RefusesSource source status report before after
-  pub only : status ≡ 2 → HasNoUnit source
-  pub none : (place : ℕ) → IsRefusedAt source place → HasNoUnit source
-  pub once : (place other : ℕ) → IsRefusedAt source place → IsRefusedAt source other → place ≡ other
+-- status 2 comes, for a source within the limit, exactly where it is no program; and it is none exactly where
+-- there is a refusal of it, which is the only one
+pub record JudgesSource (command : Command) (source : List ℕ) (status : ℕ) (report : Option PlainRun) (before after : Outside) : Type 0 where
+  pub refused : HasNone command source → RefusesSource command source status report before after
+  pub only : status ≡ 2 → HasNone command source
+  pub none : (refusal : Refusal) → Refuses command source refusal → HasNone command source
+  pub once : (refusal other : Refusal) → Refuses command source refusal → Refuses command source other → refusal ≡ other
 
 abbrev pub SourceClause : List (List ℕ) → ℕ → Option PlainRun → Outside → Outside → Type 0
 SourceClause words status report before after =
-    Reads words status report before after → IfSome before.left (λ source. length source ≤ 1048576 → JudgesSource source status report before after)
+    (command : Command) → Reads words command status report before after
+    → IfSome before.left (λ source. length source ≤ most_bytes command → JudgesSource command source status report before after)
 
--- the whole text was written, and the status is the report's
-pub record Writes (items : List PlainItem) (status : ℕ) (before after : Outside) (run : PlainRun) : Type 0 where
-  pub status_is : status ≡ run.status
-  pub text : Appends before.written (text_of items run) after.written
+-- all that the command has to say of the program was written, with its status
+pub record Writes (command : Command) (program : Program command) (status : ℕ) (report : Option PlainRun) (before after : Outside) : Type 0 where
+  pub saying : Saying
+  pub made : Makes command program report saying
+  pub status_is : status ≡ saying.status
+  pub text : Appends before.written saying.text after.written
 
--- where no read and no write failed and the status isn't 8, a source with a unit gives the text of its run
+-- where no read and no write failed and the status isn't 8, a source that is a program gives its text
 abbrev pub WrittenClause : List (List ℕ) → ℕ → Option PlainRun → Outside → Outside → Type 0
 WrittenClause words status report before after =
-    Reads words status report before after → Quiet before.write_faults after.write_faults → status ≢ 8
-    → IfSome before.left (λ source. (items : List PlainItem) → Accepted source items → IsSomeAnd report (Writes items status before after))
+    (command : Command) → Reads words command status report before after → Quiet before.write_faults after.write_faults → status ≢ 8
+    → IfSome before.left (λ source. (program : Program command) → IsProgram command source program → Writes command program status report before after)
 
 -- the bytes are those that were left, where these are known
 abbrev pub IsSource : Option (List ℕ) → List ℕ → Type 0
 IsSource left source = IfSome left (λ bytes. bytes ≡ source)
 
--- the report is that of a good run of a unit of the source
-pub record RunsUnit (left : Option (List ℕ)) (run : PlainRun) : Type 0 where
+-- the run is a good run of the program that is the source
+pub record RunsProgram (words : List (List ℕ)) (left : Option (List ℕ)) (run : PlainRun) : Type 0 where
+  pub command : Command
+  pub spelled : Spells words command
   pub source : List ℕ
-  pub items : List PlainItem
+  pub program : Program command
   pub bytes : IsSource left source
-  pub accepted : Accepted source items
-  pub good : GoodRun (small_demands items) (small_sets items) Turns run
+  pub is : IsProgram command source program
+  pub good : IsGoodRun command program run
 
-abbrev pub RunClause : Option PlainRun → Outside → Type 0
-RunClause report before = IfSome report (RunsUnit before.left)
+abbrev pub RunClause : List (List ℕ) → Option PlainRun → Outside → Type 0
+RunClause words report before = IfSome report (RunsProgram words before.left)
 
--- status 7 says that the run is stuck; a run that is stuck, and in which no process failed, has status 7,
+-- status 7 says that the run is stuck and that no process of it failed; a run of which this holds has status 7,
 -- unless its text wasn't written
-pub record TellsStuck (items : List PlainItem) (status : ℕ) (run : PlainRun) : Type 0 where
-  pub only : status ≡ 7 → Stuck (small_demands items) (by_ticket run.histories)
-  pub told : Stuck (small_demands items) (by_ticket run.histories) → some_failure run.reports ≡ false → (status ≡ 7) ⊎ ((status ≡ 5) ⊎ (status ≡ 8))
+pub record TellsStuck (command : Command) (program : Program command) (status : ℕ) (run : PlainRun) : Type 0 where
+  pub only : status ≡ 7 → IsStuck command program run × (some_failure run.reports ≡ false)
+  pub told : IsStuck command program run → some_failure run.reports ≡ false → (status ≡ 7) ⊎ ((status ≡ 5) ⊎ (status ≡ 8))
 
-pub record StuckClause (status : ℕ) (report : Option PlainRun) (before : Outside) : Type 0 where
+pub record StuckClause (words : List (List ℕ)) (status : ℕ) (report : Option PlainRun) (before : Outside) : Type 0 where
   pub reported : status ≡ 7 → IsSome report
-  pub exact : IfSome before.left (λ source. (items : List PlainItem) → Accepted source items → IfSome report (TellsStuck items status))
+  pub exact : (command : Command) → Spells words command
+      → IfSome before.left (λ source. (program : Program command) → IsProgram command source program → IfSome report (TellsStuck command program status))
 
--- no process of the small form halts its run but by want of memory
+-- the statuses of a call: those of its command, or 1 and 5 where the words spell none
+pub record StatusesClause (words : List (List ℕ)) (status : ℕ) : Type 0 where
+  pub none : SpellsNone words → IsListed (1 ∷ 5 ∷ []) status
+  pub some : (command : Command) → Spells words command → IsListed (statuses command) status
+
+-- no process halts its run but by want of memory
 pub record HaltedClause (status : ℕ) : Type 0 where
   pub no_trap : status ≢ 3
   pub no_thread : status ≢ 6
@@ -116,18 +121,24 @@ pub record ReadFaultClause (status : ℕ) (report : Option PlainRun) (before aft
   pub no_run : status ≡ 4 → report ≡ None
   pub kept : status ≢ 4 → after.read_faults ≡ before.read_faults
 
+-- where a read failed, and where memory ran out before there was a report, no more bytes were taken from the
+-- source than the command takes
+pub record LostClause (words : List (List ℕ)) (status : ℕ) (report : Option PlainRun) (before after : Outside) : Type 0 where
+  pub fault : (command : Command) → Spells words command → status ≡ 4 → LosesUpTo (most_bytes command) before.left after.left
+  pub memory : (command : Command) → Spells words command → status ≡ 8 → report ≡ None → LosesUpTo (most_bytes command) before.left after.left
+
 -- status 5 comes only where a write failed
 pub record WriteFaultClause (status : ℕ) (before after : Outside) : Type 0 where
   pub rose : status ≡ 5 → Rose before.write_faults after.write_faults
   pub kept : status ≢ 5 → after.write_faults ≡ before.write_faults
 
--- a text that the call may write: of words that spell no command, of a source that is too large or has no
--- unit, or of a run of its unit
+-- a text that the call may write: of words that spell no command, of a source that is too large or is refused,
+-- or what the command has to say of its program
 pub data IsText (words : List (List ℕ)) (report : Option PlainRun) (before : Outside) (text : List ℕ) : Type 0 where
   OfWords : SpellsNone words → text ≡ words_refused → IsText words report before text
-  OfLarge : IfSome before.left (λ source. 1048576 < length source) → text ≡ too_large → IsText words report before text
-  OfSource : (source : List ℕ) → IsSource before.left source → HasNoUnit source → (place : ℕ) → IsRefusedAt source place → text ≡ not_built source place → IsText words report before text
-  OfRun : (source : List ℕ) (items : List PlainItem) (run : PlainRun) → IsSource before.left source → Accepted source items → report ≡ Some run → text ≡ text_of items run → IsText words report before text
+  OfLarge : (command : Command) → Spells words command → IfSome before.left (λ source. most_bytes command < length source) → text ≡ too_large → IsText words report before text
+  OfSource : (command : Command) → Spells words command → (source : List ℕ) → IsSource before.left source → HasNone command source → (refusal : Refusal) → Refuses command source refusal → text ≡ refused source refusal → IsText words report before text
+  OfProgram : (command : Command) → Spells words command → (source : List ℕ) → IsSource before.left source → (program : Program command) → IsProgram command source program → (saying : Saying) → Makes command program report saying → text ≡ saying.text → IsText words report before text
 
 -- a front of such a text was written
 pub record WritesFront (words : List (List ℕ)) (report : Option PlainRun) (before after : Outside) : Type 0 where
@@ -151,11 +162,11 @@ pub record MemoryClause (words : List (List ℕ)) (status : ℕ) (report : Optio
   pub memory : status ≡ 8 → IsSome report → WritesWhole words report before after ⊎ (after.written ≡ before.written)
   pub nothing : status ≡ 8 → report ≡ None → after.written ≡ before.written
 
--- a report is there exactly where a process was run
-pub record Reports (source : List ℕ) (report : Option PlainRun) : Type 0 where
-  pub run : IsSome report → (items : List PlainItem) × Accepted source items
-  pub there : (items : List PlainItem) → Accepted source items → IsSome report
+-- a report is there exactly where the command runs a source and the source is a program
+pub record Reports (command : Command) (source : List ℕ) (report : Option PlainRun) : Type 0 where
+  pub run : IsSome report → (program : Program command) × IsProgram command source program
+  pub there : does_run command ≡ true → (program : Program command) → IsProgram command source program → IsSome report
 
-abbrev pub ReportClause : List (List ℕ) → ℕ → Option PlainRun → Outside → Outside → Type 0
-ReportClause words status report before after =
-    Reads words status report before after → status ≢ 8 → IfSome before.left (λ source. Reports source report)
+pub record ReportClause (words : List (List ℕ)) (status : ℕ) (report : Option PlainRun) (before after : Outside) : Type 0 where
+  pub none : (command : Command) → Spells words command → does_run command ≡ false → report ≡ None
+  pub exact : (command : Command) → Reads words command status report before after → status ≢ 8 → IfSome before.left (λ source. Reports command source report)

@@ -1,9 +1,12 @@
-//! The program: it reads a source and the words of a command, runs the source and writes its text.
+//! The program: it reads a source and the words of a command, and runs the source or prints it.
 //!
-//! `top` has the top call, `clinda_plain`, whose clauses carry the headline from the bytes read to the
-//! bytes written. Below it stand, each upon those after it in its row:
+//! `program` hands the arguments to the top call and its status to `main`. `top` has the top call,
+//! `clinda_plain`, whose clauses carry the headline from the bytes read to the bytes written. Below it stand,
+//! each upon those after it in its row:
 //!
 //! - `words`: the command that the words spell.
+//! - `seq`, `print`: what each command makes of a source; `outcome`: what there is to say of it.
+//! - `front`: the reader of the whole language.
 //! - `small`: the reader of the small form of a source.
 //! - `running`, `stage`, `log`, `bindings`, `taking`, `printing`, `tables`: the run of a unit, its state, its
 //!   acts, the values of its variables, what it takes and prints, and the texts and tuples of its pieces.
@@ -11,11 +14,17 @@
 #![tactic(auto)]
 
 mod bindings;
+mod front;
+mod limits;
 mod log;
+mod outcome;
+mod print;
 mod printing;
+mod program;
 mod refusal;
 mod report_text;
 mod running;
+mod seq;
 mod small;
 mod stage;
 mod tables;
@@ -26,27 +35,26 @@ mod text;
 mod top;
 mod words;
 
-use crate::top::clinda_plain;
+use crate::program::run;
 use cl_outside::{ReaderSource, WriterSink};
 use std::io::ErrorKind;
 use std::process::ExitCode;
 use std::{env, io};
 
-// The arguments without the program's name.
+// The arguments, the program's name first.
 fn arguments(rt: &HostRuntime) -> io::Result<Vec<String>> {
-    let words = env::args(rt)?.skip(1).collect(rt.alloc())?;
-    Ok(words)
+    let arguments = env::args(rt)?.collect(rt.alloc())?;
+    Ok(arguments)
 }
 
 fn main(rt: HostRuntime) -> ExitCode {
-    let words = match arguments(&rt) {
-        Ok(words) => words,
+    let arguments = match arguments(&rt) {
+        Ok(arguments) => arguments,
         Err(error) if error.kind() == ErrorKind::OutOfMemory => return ExitCode::from(8),
         // Arguments that aren't text spell no command.
         Err(_) => Vec::new(rt.alloc()),
     };
     let mut src = ReaderSource::new(rt.reader());
     let mut out = WriterSink::new(io::writer(&rt));
-    let end = clinda_plain(rt.alloc(), words.as_slice(), &mut src, &mut out);
-    ExitCode::from(end.status)
+    run(rt.alloc(), arguments.as_slice(), &mut src, &mut out)
 }

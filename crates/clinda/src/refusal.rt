@@ -1,8 +1,11 @@
 ghost use Rattle.std.specs.Prelude.{◌≡◌, ◌≤◌, length, take, IfOk};
-ghost use Rattle.cl_model.specs.Refusals.{line_from, column_from, not_built};
+ghost use Rattle.cl_model.specs.Refusals.{line_from, column_from, kind_word, refused};
 ghost use Rattle.cl_model.specs.Refusals as refusals;
+ghost use Rattle.clinda.specs.Making.{IsSaid, refusal_saying};
 
+use crate::outcome::{Outcome, Saying};
 use crate::text::Text;
+use cl_model::{Refusal, RefusalKind};
 use cl_value::NoMemory;
 use std::alloc::Global;
 
@@ -41,19 +44,57 @@ pub fn line_column(source: &[u8], place: usize) -> (u32, u32)
     (line, column)
 }
 
-/// The text of a source that isn't of the form that is built, refused at this place.
-pub fn not_built_text(alloc: Global, source: &[u8], place: usize) -> Result<Text, NoMemory>
-    requires { length source.now ≤ 67108864 }
-    ensures { IfOk result (λ text. text ≡ not_built source.now place) }
+// The name of a kind of refusal.
+fn word_of(kind: RefusalKind) -> &'static [u8]
+    ensures { result.now ≡ kind_word kind }
 {
-    let (line, column) = line_column(source, place);
+    match kind {
+        RefusalKind::BadByte => b"BadByte",
+        RefusalKind::OpenString => b"OpenString",
+        RefusalKind::OpenComment => b"OpenComment",
+        RefusalKind::WideLiteral => b"WideLiteral",
+        RefusalKind::BadDirective => b"BadDirective",
+        RefusalKind::Syntax => b"Syntax",
+        RefusalKind::TooDeep => b"TooDeep",
+        RefusalKind::NotBuilt => b"NotBuilt",
+    }
+}
+
+/// The text of a refusal of this source.
+pub fn refusal_text(alloc: Global, source: &[u8], refusal: Refusal) -> Result<Text, NoMemory>
+    requires { length source.now ≤ 67108864 }
+    ensures { IfOk result (λ text. text ≡ refused source.now refusal) }
+{
+    let (line, column) = line_column(source, refusal.place);
     let mut text = Text::new(alloc);
-    text.add(b"refused NotBuilt at ")?;
+    text.add(b"refused ")?;
+    text.add(word_of(refusal.kind))?;
+    text.add(b" at ")?;
     text.add_number(alloc, u64::from(line))?;
     text.add(b":")?;
     text.add_number(alloc, u64::from(column))?;
     text.add(b"\n")?;
     Ok(text)
+}
+
+// What is to be said of a refusal of this source.
+fn saying_of(alloc: Global, source: &[u8], refusal: Refusal) -> Option<Saying>
+    requires { length source.now ≤ 67108864 }
+    ensures { IsSaid result (refusal_saying source.now refusal) }
+{
+    match refusal_text(alloc, source, refusal) {
+        Ok(text) => Some(Saying { text, status: 2 }),
+        Err(NoMemory) => None,
+    }
+}
+
+/// A source is refused so.
+pub fn refuse(alloc: Global, source: &[u8], refusal: Refusal) -> Outcome
+    requires { length source.now ≤ 67108864 }
+    ensures report { result.report ≡ None }
+    ensures saying { IsSaid result.saying (refusal_saying source.now refusal) }
+{
+    Outcome::without_report(saying_of(alloc, source, refusal))
 }
 
 #[cfg(test)]
@@ -78,7 +119,11 @@ mod tests {
 
     #[test]
     fn refusals_are_written(rt: HostRuntime) -> Result<(), Fail> {
-        let text = not_built_text(rt.alloc(), b"a\nb", 3)?;
+        let refusal = Refusal {
+            kind: RefusalKind::NotBuilt,
+            place: 3,
+        };
+        let text = refusal_text(rt.alloc(), b"a\nb", refusal)?;
         assert_eq!(rt; text.as_bytes(), b"refused NotBuilt at 2:2\n".as_slice());
         assert_eq!(rt; words_refused(), b"words refused\n".as_slice());
         assert_eq!(rt; too_large(), b"refused TooLarge\n".as_slice());

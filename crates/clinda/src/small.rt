@@ -19,6 +19,7 @@ ghost use Rattle.cl_model.specs.SmallViews.{plain_unit};
 ghost use Rattle.clinda.specs.ReadingEnds.{RefusesAt};
 
 use crate::small::item::unit;
+pub use crate::small::name::MOST_NAMES;
 use crate::small::stop::Stop;
 pub use crate::small::word::is_same;
 use cl_model::SmallUnit;

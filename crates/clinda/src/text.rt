@@ -1,4 +1,5 @@
-use cl_value::{Items, NoMemory};
+use cl_ast::Items;
+use cl_value::NoMemory;
 use std::alloc::{AllocError, Global};
 use std::marker::Model;
 
@@ -29,13 +30,24 @@ impl Text {
         }
     }
 
+    /// These bytes.
+    pub fn of(bytes: Items<u8>) -> Text
+        ensures { result ≡ bytes.items }
+    {
+        Text { bytes }
+    }
+
     /// Puts bytes at the end.
     pub fn add(&mut self, bytes: &[u8]) -> Result<(), NoMemory>
         ensures ok { OnOk result (self.new ≡ self.old ++ bytes.now) }
     {
-        self.bytes.reserve(bytes.len())?;
-        self.bytes.push_all(bytes);
-        Ok(())
+        match self.bytes.reserve(bytes.len()) {
+            Ok(()) => {
+                self.bytes.push_all(bytes);
+                Ok(())
+            }
+            Err(cl_ast::NoMemory) => Err(NoMemory),
+        }
     }
 
     /// Puts a number at the end, decimal without leading zeros.

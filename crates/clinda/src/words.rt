@@ -1,4 +1,4 @@
-ghost use Rattle.std.specs.Prelude.{◌≡◌, ◌≢◌, ℕ, ◌^◌, ◌<◌, IfSome, IfNone};
+ghost use Rattle.std.specs.Prelude.{◌≡◌, ◌≢◌, ℕ, ◌^◌, ◌<◌, [], ◌∷◌, IfSome, IfNone};
 ghost use Rattle.std.specs.Fmt.{decimal};
 ghost use Rattle.cl_model.specs.Commands.{Spells, SpellsNone};
 ghost use Rattle.clinda.specs.Words.{words_in};
@@ -9,6 +9,24 @@ ghost use Rattle.clinda.specs.Commanded.{plain_command};
 pub enum Command {
     /// Runs the source on one thread, with turns drawn from this number.
     Seq { seed: u64 },
+    /// Writes the canonical text of the source.
+    Print,
+}
+
+impl Command {
+    ghost use Rattle.std.specs.Prelude.{◌≡◌, ◌≤◌};
+    ghost use Rattle.cl_model.specs.Commands.{most_bytes};
+    ghost use Rattle.clinda.specs.Commanded.{plain_command};
+
+    /// The most bytes of a source that it takes.
+    pub fn most_bytes(self) -> usize
+        ensures value { result ≡ most_bytes (plain_command self) }
+        ensures few { result ≤ 1048576 }
+    {
+        match self {
+            Command::Seq { .. } | Command::Print => 1_048_576,
+        }
+    }
 }
 
 /// The command that the words spell, or none.
@@ -16,13 +34,33 @@ pub fn command_of(words: &[String]) -> Option<Command>
     ensures spelled { IfSome result (λ command. Spells (words_in words.now) (plain_command command)) }
     ensures none { IfNone result (SpellsNone (words_in words.now)) }
 {
-    let [name, number] = words else {
-        return None;
-    };
-    if name.as_str() != "seq" {
+    match words {
+        [name] => alone(name.as_str()),
+        [name, number] => with_number(name.as_str(), number.as_str()),
+        _ => None,
+    }
+}
+
+// The command that this word alone spells, or none.
+fn alone(name: &str) -> Option<Command>
+    ensures spelled { IfSome result (λ command. Spells (name.now ∷ []) (plain_command command)) }
+    ensures none { IfNone result (SpellsNone (name.now ∷ [])) }
+{
+    if name != "print" {
         return None;
     }
-    let seed = number_of(number.as_str())?;
+    Some(Command::Print)
+}
+
+// The command that this word and this number spell, or none.
+fn with_number(name: &str, number: &str) -> Option<Command>
+    ensures spelled { IfSome result (λ command. Spells (name.now ∷ number.now ∷ []) (plain_command command)) }
+    ensures none { IfNone result (SpellsNone (name.now ∷ number.now ∷ [])) }
+{
+    if name != "seq" {
+        return None;
+    }
+    let seed = number_of(number)?;
     Some(Command::Seq { seed })
 }
 
@@ -72,6 +110,7 @@ mod tests {
                 Some(Command::Seq { seed })
             );
         }
+        assert_eq!(rt; spelled(alloc, &["print"])?, Some(Command::Print));
         Ok(())
     }
 
@@ -94,6 +133,9 @@ mod tests {
         assert_eq!(rt; spelled(alloc, &["seq"])?, None);
         assert_eq!(rt; spelled(alloc, &["Seq", "1"])?, None);
         assert_eq!(rt; spelled(alloc, &["seq", "1", "2"])?, None);
+        assert_eq!(rt; spelled(alloc, &["Print"])?, None);
+        assert_eq!(rt; spelled(alloc, &["print", "1"])?, None);
+        assert_eq!(rt; spelled(alloc, &["print", ""])?, None);
         Ok(())
     }
 }

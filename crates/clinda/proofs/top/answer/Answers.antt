@@ -8,8 +8,8 @@ use Rattle.clinda.specs.Commanded.{plain_command}
 use Rattle.clinda.proofs.Sayings.{resaid}
 use Rattle.clinda.proofs.top.answer.Goals as goal
 
-pub returns-in-Some-Seq : goal.returns-in-Some-Seq
-returns-in-Some-Seq g c = Commanded (plain_command c.in-Some-Seq.field-0) c.in-Some-Seq.ensures.spelled c.read_and_judge.ensures
+pub returns-in-Some : goal.returns-in-Some
+returns-in-Some g c = Commanded (plain_command c.in-Some.command) c.in-Some.ensures.spelled c.read_and_make.ensures
 
 pub returns-in-None : goal.returns-in-None
 returns-in-None g c =

@@ -1,4 +1,4 @@
-use Rattle.clinda.proofs.top.run.Given as goal
+use Rattle.clinda.proofs.seq.run.Given as goal
 
 abbrev pub ghosts-run_counted : goal.ghosts-run_counted
 ghosts-run_counted a = record { name = a.blank.name; parts = a.blank.parts }

@@ -1,0 +1,163 @@
+-- A source is read as one tree, or refused in one way.
+use Rattle.std.proofs.Common.{◌≡◌, ℕ, zero, suc, ◌≤◌, ◌<◌, List, [], ◌∷◌, length, map, drop, get_or, Result, Ok, Err, refl, sym, ap, subst, ◌∙◌, arith}
+use Rattle.cl_rules.specs.Rules.{Kind, Syntax, TooDeep}
+use Rattle.cl_rules.proofs.Exact.{stops_once}
+use Rattle.cl_rules.proofs.Reading.{reads_is}
+use Rattle.cl_ast.specs.declared.fault.LexKind.{LexKind}
+use Rattle.cl_ast.specs.declared.fault.LexKind.TheVariants as lexical
+use Rattle.cl_ast.specs.declared.statement.Item.{Item}
+use Rattle.cl_ast.specs.declared.token.Token.{Token}
+use Rattle.cl_ast.specs.Room.{Room}
+use Rattle.cl_ast.specs.Views.{plain_token}
+use Rattle.cl_ast.specs.Plain.{PlainToken}
+use Rattle.cl_ast.specs.Grammar.{unit}
+use Rattle.cl_ast.specs.Splits.{Splits}
+use Rattle.cl_ast.specs.Tables.{bounds}
+use Rattle.cl_ast.proofs.Fits.{grammar_fits, unit_fits}
+use Rattle.cl_token.specs.Lexing.{IsFirstFault, IsOnly, TellsFault}
+use Rattle.cl_token.specs.declared.lexer.LexEnd.{LexEnd}
+use Rattle.cl_token.specs.declared.lexer.LexEnd.TheVariants as lex_ends
+use Rattle.cl_token.proofs.Walk.{one_fault}
+use Rattle.cl_parse.specs.Unit.{Derives, IsTree, IsStopped}
+use Rattle.cl_model.specs.declared.refusal.RefusalKind.{RefusalKind}
+use Rattle.cl_model.specs.declared.refusal.RefusalKind.TheVariants as kinds
+use Rattle.cl_model.specs.Commands.{Print}
+use Rattle.clinda.specs.Front.{IsReadAs, StopsAt, place_of, FailsBy}
+use Rattle.clinda.specs.FrontEnds.{IsSplitOnce, refusal_kind, StopsFront, EndsFront}
+use Rattle.clinda.specs.declared.front.FrontEnd.{FrontEnd}
+use Rattle.clinda.specs.declared.front.FrontEnd.TheVariants as ends
+use Rattle.clinda.specs.Making.{HasProgram, IsRefused}
+use Rattle.clinda.proofs.Refused.{same_refusal}
+
+-- ---- sources that aren't tokens
+
+module _ (source : List ℕ) (place : ℕ) (kind : LexKind) (fault : IsFirstFault source place kind) where
+  no_tree : (items : List Item) → IsReadAs source items → ⊥
+  no_tree items read = fault.none read.tokens read.splits
+
+  fails_so : (k : LexKind) → IsFirstFault source place k → FailsBy (refusal_kind k) source place
+  fails_so lexical.BadByte f = f
+  fails_so lexical.OpenString f = f
+  fails_so lexical.OpenComment f = f
+  fails_so lexical.WideLiteral f = f
+  fails_so lexical.BadDirective f = f
+
+  same_fault : (p : ℕ) (k : LexKind) → IsFirstFault source p k → (refusal_kind kind ≡ refusal_kind k) × (place ≡ p)
+  same_fault p k f = let same = one_fault source place p kind k fault.fault f.fault in (ap refusal_kind same.same_kind, same.same_place)
+
+  same_failure : (p : ℕ) (k : RefusalKind) → FailsBy k source p → (refusal_kind kind ≡ k) × (place ≡ p)
+  same_failure p kinds.BadByte f = same_fault p lexical.BadByte f
+  same_failure p kinds.OpenString f = same_fault p lexical.OpenString f
+  same_failure p kinds.OpenComment f = same_fault p lexical.OpenComment f
+  same_failure p kinds.WideLiteral f = same_fault p lexical.WideLiteral f
+  same_failure p kinds.BadDirective f = same_fault p lexical.BadDirective f
+  same_failure p kinds.Syntax f = absurd (fault.none f.tokens f.splits)
+  same_failure p kinds.TooDeep f = absurd (fault.none f.tokens f.splits)
+  same_failure p kinds.NotBuilt f = absurd f
+
+  pub fault_refuses : IsRefused Print source (record { kind = refusal_kind kind; place = place })
+  fault_refuses =
+      record {
+        none = no_tree;
+        is = fails_so kind fault;
+        alone = λ other fails. let same = same_failure other.place other.kind fails in same_refusal (refusal_kind kind) place other same.0 same.1;
+      }
+
+-- ---- sources of these tokens
+
+-- the kind of a refusal of tokens
+abbrev pub stop_kind : Kind → RefusalKind
+stop_kind Syntax = kinds.Syntax
+stop_kind TooDeep = kinds.TooDeep
+
+-- reading stops at one place, by one kind
+one_stop : (tokens : List PlainToken) (kind other : Kind) (bad worse : List PlainToken) → IsStopped 64 tokens kind bad → IsStopped 64 tokens other worse → (kind ≡ other) × (bad ≡ worse)
+one_stop tokens kind other bad worse s r = stops_once (reads_is bounds grammar_fits 64 unit unit_fits).laws 64 tokens kind other bad worse s.stops r.stops
+
+module _ (source : List ℕ) (tokens : List PlainToken) (split : IsSplitOnce source tokens) where
+  -- what is said of tokens that split the source is said of these
+  of_tokens : (P : List PlainToken → Type 0) (others : List PlainToken) → Splits source others → P others → P tokens
+  of_tokens P others splits h = subst P (sym (split.alone others splits)) h
+
+  no_fault : (p : ℕ) (k : LexKind) → IsFirstFault source p k → ⊥
+  no_fault p k f = f.none tokens split.splits
+
+  module _ (kind : Kind) (bad : List PlainToken) (stopped : IsStopped 64 tokens kind bad) where
+    none_read : (items : List Item) → IsReadAs source items → ⊥
+    none_read items read = stopped.none items (of_tokens (λ ts. Derives 64 ts items) read.tokens read.splits read.tree.derived)
+
+    stops_so : (k : Kind) → IsStopped 64 tokens k bad → FailsBy (stop_kind k) source (place_of source bad)
+    stops_so Syntax s = record { tokens = tokens; splits = split.splits; bad = bad; stopped = s; place_is = refl }
+    stops_so TooDeep s = record { tokens = tokens; splits = split.splits; bad = bad; stopped = s; place_is = refl }
+
+    same_stop : (p : ℕ) (k : Kind) → StopsAt source k p → (stop_kind kind ≡ stop_kind k) × (place_of source bad ≡ p)
+    same_stop p k s =
+        let same = one_stop tokens kind k bad s.bad stopped (of_tokens (λ ts. IsStopped 64 ts k s.bad) s.tokens s.splits s.stopped) in
+        (ap stop_kind same.0, ap (place_of source) same.1 ∙ sym s.place_is)
+
+    same_end : (p : ℕ) (k : RefusalKind) → FailsBy k source p → (stop_kind kind ≡ k) × (place_of source bad ≡ p)
+    same_end p kinds.BadByte f = absurd (no_fault p lexical.BadByte f)
+    same_end p kinds.OpenString f = absurd (no_fault p lexical.OpenString f)
+    same_end p kinds.OpenComment f = absurd (no_fault p lexical.OpenComment f)
+    same_end p kinds.WideLiteral f = absurd (no_fault p lexical.WideLiteral f)
+    same_end p kinds.BadDirective f = absurd (no_fault p lexical.BadDirective f)
+    same_end p kinds.Syntax f = same_stop p Syntax f
+    same_end p kinds.TooDeep f = same_stop p TooDeep f
+    same_end p kinds.NotBuilt f = absurd f
+
+    pub stop_refuses : IsRefused Print source (record { kind = stop_kind kind; place = place_of source bad })
+    stop_refuses =
+        record {
+          none = none_read;
+          is = stops_so kind stopped;
+          alone = λ other fails. let same = same_end other.place other.kind fails in same_refusal (stop_kind kind) (place_of source bad) other same.0 same.1;
+        }
+
+  module _ (items : List Item) (tree : IsTree 64 tokens items) where
+    never_stops : (k : Kind) (p : ℕ) → StopsAt source k p → ⊥
+    never_stops k p s = (of_tokens (λ ts. IsStopped 64 ts k s.bad) s.tokens s.splits s.stopped).none items tree.derived
+
+    never_fails : (k : RefusalKind) (p : ℕ) → FailsBy k source p → ⊥
+    never_fails kinds.BadByte p f = no_fault p lexical.BadByte f
+    never_fails kinds.OpenString p f = no_fault p lexical.OpenString f
+    never_fails kinds.OpenComment p f = no_fault p lexical.OpenComment f
+    never_fails kinds.WideLiteral p f = no_fault p lexical.WideLiteral f
+    never_fails kinds.BadDirective p f = no_fault p lexical.BadDirective f
+    never_fails kinds.Syntax p f = never_stops Syntax p f
+    never_fails kinds.TooDeep p f = never_stops TooDeep p f
+    never_fails kinds.NotBuilt p f = f
+
+    same_tree : (others : List Item) → IsReadAs source others → items ≡ others
+    same_tree others read = sym (tree.only 64 others (of_tokens (λ ts. Derives 64 ts others) read.tokens read.splits read.tree.derived))
+
+    pub tree_read : length source ≤ 1048576 → HasProgram Print source items
+    tree_read size =
+        record {
+          is = record { size = size; tokens = tokens; splits = split.splits; tree = tree };
+          alone = same_tree;
+          fine = λ refusal fails. never_fails refusal.kind refusal.place fails;
+        }
+
+-- ---- what the lexer and the parser tell
+
+-- a fault that ends the lexer is one of the source
+pub stops_front : (source : List ℕ) (result : Result (Room Token) LexEnd) (end : LexEnd) → result ≡ Err end → TellsFault result source → StopsFront source end
+stops_front source result (lex_ends.Fault place kind) is told = subst (λ (r : Result (Room Token) LexEnd). TellsFault r source) is told
+stops_front source result lex_ends.NoMemory is told = tt
+
+-- the tokens that the lexer gives are the only ones
+pub split_once : (source : List ℕ) (result : Result (Room Token) LexEnd) (found : Room Token) (tokens : List Token) → result ≡ Ok found → tokens ≡ found.items → ((others : List PlainToken) → Splits source others → IsOnly result others) → Splits source (map plain_token found.items) → IsSplitOnce source (map plain_token tokens)
+split_once source result found tokens is same only splits =
+    subst (λ (ts : List Token). IsSplitOnce source (map plain_token ts)) (sym same)
+    (record { splits = splits; alone = λ others other. subst (λ (r : Result (Room Token) LexEnd). IsOnly r others) is (only others other) })
+
+-- a refusal of tokens by the parser is one of the source
+pub parse_refuses : (source : List ℕ) (tokens : List PlainToken) → IsSplitOnce source tokens → (kind : Kind) (token : ℕ) (result : FrontEnd) → IsStopped 64 tokens kind (drop token tokens) →
+    result ≡ ends.Refused (record { kind = stop_kind kind; place = place_of source (drop token tokens) }) → EndsFront source result
+parse_refuses source tokens split kind token result stopped is = subst (λ (end : FrontEnd). EndsFront source end) (sym is) (stop_refuses source tokens split kind (drop token tokens) stopped)
+
+-- the place of a token that is there
+pub token_place : (source : List ℕ) (tokens : List Token) (n : ℕ) (token : Token) → n < length tokens → token ≡ get_or tokens n token → token.span.start ≡ place_of source (drop n (map plain_token tokens))
+token_place source [] n token less is = absurd (omega (arith, less))
+token_place source (t ∷ ts) zero token less is = ap (λ (t : Token). t.span.start) is
+token_place source (t ∷ ts) (suc n) token less is = token_place source ts n token (omega (arith, less)) is

@@ -1,0 +1,36 @@
+-- What a command found of a source, from what became of its parts.
+use Rattle.std.proofs.Common.{◌≡◌, ℕ, List, Option, None, refl, sym, subst}
+use Rattle.cl_value.specs.Plain.{PlainRun}
+use Rattle.cl_ast.specs.declared.statement.Item.{Item}
+use Rattle.cl_model.specs.declared.refusal.Refusal.{Refusal}
+use Rattle.cl_model.specs.declared.refusal.RefusalKind.TheVariants as kinds
+use Rattle.cl_model.specs.Commands.{Command, Seq, Print}
+use Rattle.cl_model.specs.Places.{IsRefusedAt}
+use Rattle.cl_model.specs.Small.{PlainItem, Accepted}
+use Rattle.clinda.specs.Making.{HasNone, HasProgram, IsRefused, IsSaid, run_saying, text_saying, refusal_saying, Found, Made, Refused}
+use Rattle.clinda.specs.Making as making
+use Rattle.clinda.specs.Ran.{Ran, Reported, Unreported}
+use Rattle.clinda.specs.declared.outcome.Saying.{Saying}
+use Rattle.clinda.proofs.PlaceLaws.{refused_once, refused_has_none}
+use Rattle.clinda.proofs.Refused.{same_refusal}
+
+-- a unit is a program of `seq`, and nothing refuses it
+pub unit_read : (seed : ℕ) (source : List ℕ) (items : List PlainItem) → Accepted source items → ((others : List PlainItem) → Accepted source others → items ≡ others) → HasProgram (Seq seed) source items
+unit_read seed source items accepted alone =
+    record { is = accepted; alone = alone; fine = λ refusal refuses. refused_has_none source refusal.place refuses.1 items accepted }
+
+-- a source of no unit is refused at one place
+pub unit_refused : (seed : ℕ) (source : List ℕ) (place : ℕ) → HasNone (Seq seed) source → IsRefusedAt source place → IsRefused (Seq seed) source (record { kind = kinds.NotBuilt; place = place })
+unit_refused seed source place none at =
+    record { none = none; is = (refl, at); alone = λ other refuses. same_refusal kinds.NotBuilt place other (sym refuses.0) (refused_once source place other.place at refuses.1) }
+
+pub run_found : (seed : ℕ) (source : List ℕ) (items : List PlainItem) (report : Option PlainRun) (found : Option Saying) → HasProgram (Seq seed) source items → Ran items report found → Found (Seq seed) source report found
+run_found seed source items report found has (Reported run told is said) = Made items has (run_saying items run) (record { run = run; told = told; is = is; said = refl }) said
+run_found seed source items report found has (Unreported none nothing) = making.Unfound none nothing
+
+pub text_found : (source : List ℕ) (items : List Item) (report : Option PlainRun) (found saying : Option Saying) → HasProgram Print source items → report ≡ None → found ≡ saying → IsSaid saying (text_saying items) → Found Print source report found
+text_found source items report found saying has none same said =
+    Made items has (text_saying items) (record { no_run = none; said = refl }) (subst (λ (o : Option Saying). IsSaid o (text_saying items)) (sym same) said)
+
+pub refusal_found : (command : Command) (source : List ℕ) (refusal : Refusal) (report : Option PlainRun) (found : Option Saying) → IsRefused command source refusal → report ≡ None → IsSaid found (refusal_saying source refusal) → Found command source report found
+refusal_found command source refusal report found is none said = Refused refusal is none said

@@ -1,0 +1,48 @@
+-- How the reader of the whole language reads a source, and when it refuses it. (This project.)
+use Rattle.std.specs.Prelude.{ℕ, ◌≡◌, ◌≤◌, List, [], ◌∷◌, length}
+use Rattle.cl_rules.specs.Rules.{Kind, Syntax, TooDeep}
+use Rattle.cl_ast.specs.declared.fault.LexKind.TheVariants as lexical
+use Rattle.cl_ast.specs.declared.statement.Item.{Item}
+use Rattle.cl_ast.specs.Plain.{PlainToken}
+use Rattle.cl_ast.specs.Splits.{Splits}
+use Rattle.cl_token.specs.Lexing.{IsFirstFault}
+use Rattle.cl_parse.specs.Unit.{IsTree, IsStopped}
+use Rattle.cl_model.specs.declared.refusal.Refusal.{Refusal}
+use Rattle.cl_model.specs.declared.refusal.RefusalKind.{RefusalKind}
+use Rattle.cl_model.specs.declared.refusal.RefusalKind.TheVariants as kinds
+
+-- the source is the tree of these items: it has at most so many bytes, it splits into tokens, and these derive
+-- the tree and no other, within the nesting
+pub record IsReadAs (source : List ℕ) (items : List Item) : Type 0 where
+  pub size : length source ≤ 1048576
+  pub tokens : List PlainToken
+  pub splits : Splits source tokens
+  pub tree : IsTree 64 tokens items
+
+-- the place of the first of these tokens, or of the source's end
+abbrev pub place_of : List ℕ → List PlainToken → ℕ
+place_of source [] = length source
+place_of source (token ∷ tokens) = token.start
+
+-- the source splits into tokens, and reading them stops by this kind at this place
+pub record StopsAt (source : List ℕ) (kind : Kind) (place : ℕ) : Type 0 where
+  pub tokens : List PlainToken
+  pub splits : Splits source tokens
+  pub bad : List PlainToken
+  pub stopped : IsStopped 64 tokens kind bad
+  pub place_is : place ≡ place_of source bad
+
+-- the source is refused by a kind at a place: where scanning its bytes first can't go on, or else where reading
+-- its tokens can't
+abbrev pub FailsBy : RefusalKind → List ℕ → ℕ → Type 0
+FailsBy kinds.BadByte source place = IsFirstFault source place lexical.BadByte
+FailsBy kinds.OpenString source place = IsFirstFault source place lexical.OpenString
+FailsBy kinds.OpenComment source place = IsFirstFault source place lexical.OpenComment
+FailsBy kinds.WideLiteral source place = IsFirstFault source place lexical.WideLiteral
+FailsBy kinds.BadDirective source place = IsFirstFault source place lexical.BadDirective
+FailsBy kinds.Syntax source place = StopsAt source Syntax place
+FailsBy kinds.TooDeep source place = StopsAt source TooDeep place
+FailsBy kinds.NotBuilt source place = ⊥
+
+abbrev pub Fails : List ℕ → Refusal → Type 0
+Fails source refusal = FailsBy refusal.kind source refusal.place

@@ -1,0 +1,116 @@
+-- What each command makes of a source: each definition of the second part has a case for each command. (This
+-- project.)
+use Rattle.std.specs.Prelude.{ℕ, ◌≡◌, List, length, Option, Some, None, IfSome}
+use Rattle.cl_value.specs.Plain.{PlainRun}
+use Rattle.cl_value.specs.Tickets.{by_ticket}
+use Rattle.cl_value.specs.Text.{run_text}
+use Rattle.cl_ast.specs.declared.statement.Item.{Item}
+use Rattle.cl_print.specs.Writing.{canonical}
+use Rattle.cl_model.specs.declared.refusal.Refusal.{Refusal}
+use Rattle.cl_model.specs.declared.refusal.RefusalKind.TheVariants as kinds
+use Rattle.cl_model.specs.Commands.{Command, Seq, Print}
+use Rattle.cl_model.specs.Ends.{Stuck}
+use Rattle.cl_model.specs.Good.{GoodRun, Turns}
+use Rattle.cl_model.specs.Places.{IsRefusedAt}
+use Rattle.cl_model.specs.Refusals.{refused}
+use Rattle.cl_model.specs.Small.{PlainItem, Accepted}
+use Rattle.cl_model.specs.SmallMeaning.{texts_of, small_demands, small_sets}
+use Rattle.clinda.specs.Leaving.{IsRunStatus}
+use Rattle.clinda.specs.Front.{IsReadAs, Fails}
+use Rattle.clinda.specs.declared.outcome.Saying.{Saying}
+
+-- ---- a run, a tree, and a refusal
+
+-- the text of a run of a unit
+abbrev pub text_of : List PlainItem → PlainRun → List ℕ
+text_of items run = run_text (texts_of items) run.reports (length (by_ticket run.histories)) run.status
+
+-- a good run of the unit
+pub record IsRun (items : List PlainItem) (run : PlainRun) : Type 0 where
+  pub good : GoodRun (small_demands items) (small_sets items) Turns run
+  pub status : IsRunStatus run.status
+
+-- what is to be said of a run: its text, with its status
+abbrev pub run_saying : List PlainItem → PlainRun → Saying
+run_saying items run = record { text = text_of items run; status = run.status }
+
+-- the unit was run, and this is to be said of its run
+pub record Runs (items : List PlainItem) (report : Option PlainRun) (saying : Saying) : Type 0 where
+  pub run : PlainRun
+  pub told : report ≡ Some run
+  pub is : IsRun items run
+  pub said : saying ≡ run_saying items run
+
+-- what is to be said of a tree: its canonical text
+abbrev pub text_saying : List Item → Saying
+text_saying items = record { text = canonical items; status = 0 }
+
+-- nothing was run, and this is to be said of the tree
+pub record Shows (items : List Item) (report : Option PlainRun) (saying : Saying) : Type 0 where
+  pub no_run : report ≡ None
+  pub said : saying ≡ text_saying items
+
+-- what is to be said of a refusal
+abbrev pub refusal_saying : List ℕ → Refusal → Saying
+refusal_saying source refusal = record { text = refused source refusal; status = 2 }
+
+-- ---- a case for each command
+
+-- what it reads a source as
+abbrev pub Program : Command → Type 0
+Program (Seq seed) = List PlainItem
+Program Print = List Item
+
+-- the source is this program
+abbrev pub IsProgram : (command : Command) → List ℕ → Program command → Type 0
+IsProgram (Seq seed) source program = Accepted source program
+IsProgram Print source program = IsReadAs source program
+
+-- it refuses the source so
+abbrev pub Refuses : Command → List ℕ → Refusal → Type 0
+Refuses (Seq seed) source refusal = (refusal.kind ≡ kinds.NotBuilt) × IsRefusedAt source refusal.place
+Refuses Print source refusal = Fails source refusal
+
+-- it gives such a report for the program, and this is to be said
+abbrev pub Makes : (command : Command) → Program command → Option PlainRun → Saying → Type 0
+Makes (Seq seed) program report saying = Runs program report saying
+Makes Print program report saying = Shows program report saying
+
+-- the run is a good run of the program
+abbrev pub IsGoodRun : (command : Command) → Program command → PlainRun → Type 0
+IsGoodRun (Seq seed) program run = GoodRun (small_demands program) (small_sets program) Turns run
+IsGoodRun Print program run = ⊥
+
+-- the run of the program is stuck
+abbrev pub IsStuck : (command : Command) → Program command → PlainRun → Type 0
+IsStuck (Seq seed) program run = Stuck (small_demands program) (by_ticket run.histories)
+IsStuck Print program run = ⊥
+
+-- ---- any command
+
+-- no program of the command is that of the source
+abbrev pub HasNone : Command → List ℕ → Type 0
+HasNone command source = (program : Program command) → IsProgram command source program → ⊥
+
+-- the source is this program and no other, and isn't refused
+pub record HasProgram (command : Command) (source : List ℕ) (program : Program command) : Type 0 where
+  pub is : IsProgram command source program
+  pub alone : (other : Program command) → IsProgram command source other → program ≡ other
+  pub fine : (refusal : Refusal) → Refuses command source refusal → ⊥
+
+-- the source is no program, and is refused so and in no other way
+pub record IsRefused (command : Command) (source : List ℕ) (refusal : Refusal) : Type 0 where
+  pub none : HasNone command source
+  pub is : Refuses command source refusal
+  pub alone : (other : Refusal) → Refuses command source other → refusal ≡ other
+
+-- this is to be said, unless memory ran out for it
+abbrev pub IsSaid : Option Saying → Saying → Type 0
+IsSaid found saying = IfSome found (λ said. said ≡ saying)
+
+-- what the command made of the source, and what is to be said of it: the source is a program, or is refused,
+-- or memory ran out before that was known, or before there was a report
+pub data Found (command : Command) (source : List ℕ) (report : Option PlainRun) (found : Option Saying) : Type 0 where
+  Made : (program : Program command) → HasProgram command source program → (saying : Saying) → Makes command program report saying → IsSaid found saying → Found command source report found
+  Refused : (refusal : Refusal) → IsRefused command source refusal → report ≡ None → IsSaid found (refusal_saying source refusal) → Found command source report found
+  Unfound : report ≡ None → found ≡ None → Found command source report found
