@@ -66,11 +66,11 @@ pub place_alike : (t u : PlainToken) (n m : Name) (i j : Option Expr) (a b : Spa
     Tells bare_place place_kinds (roll-Place (record { name = n; index = i; span = a })) (roll-Place (record { name = m; index = j; span = b }))
 place_alike t u n m i j a b e bare said = (
   bare_place_is (roll-Place (record { name = n; index = i; span = a }))
-  ∙ ap₂ (λ bytes x. roll-Place (record { name = record { bytes = bytes; span = nowhere }; index = x; span = nowhere })) e bare
-  ∙ sym (bare_place_is (roll-Place (record { name = m; index = j; span = b }))),
+      ∙ ap₂ (λ bytes x. roll-Place (record { name = record { bytes = bytes; span = nowhere }; index = x; span = nowhere })) e bare
+      ∙ sym (bare_place_is (roll-Place (record { name = m; index = j; span = b }))),
   place_is (roll-Place (record { name = n; index = i; span = a }))
-  ∙ ap₂ (λ bytes x. one (plain.Name bytes) ++ indexed x) e said
-  ∙ sym (place_is (roll-Place (record { name = m; index = j; span = b }))),
+      ∙ ap₂ (λ bytes x. one (plain.Name bytes) ++ indexed x) e said
+      ∙ sym (place_is (roll-Place (record { name = m; index = j; span = b }))),
 )
 
 pub index_alike : (x y : Index ⊎ Unit {0}) → IndexAlike x y → (option_map bare_expr (index_value x) ≡ option_map bare_expr (index_value y)) × (option_map expr_said (index_value x) ≡ option_map expr_said (index_value y))
@@ -88,22 +88,22 @@ pub to_call_alike : (ts us : List PlainToken) (t u : PlainToken) (xs ys : List E
 to_call_alike ts us t u xs ys e a =
     let maps = told_maps bare_expr expr_said xs ys a in (
       bare_call_is (to_call ts t xs)
-      ∙ ap₂ (λ bytes zs. roll-Call (record { name = record { bytes = bytes; span = nowhere }; arguments = zs; span = nowhere })) (ap kind_bytes e) maps.0
-      ∙ sym (bare_call_is (to_call us u ys)),
+          ∙ ap₂ (λ bytes zs. roll-Call (record { name = record { bytes = bytes; span = nowhere }; arguments = zs; span = nowhere })) (ap kind_bytes e) maps.0
+          ∙ sym (bare_call_is (to_call us u ys)),
       call_is (to_call ts t xs)
-      ∙ ap₂ (λ bytes zs. one (plain.Name bytes) ++ in_brackets (written.listed (all_kinds zs))) (ap kind_bytes e) maps.1
-      ∙ sym (call_is (to_call us u ys)),
+          ∙ ap₂ (λ bytes zs. one (plain.Name bytes) ++ in_brackets (written.listed (all_kinds zs))) (ap kind_bytes e) maps.1
+          ∙ sym (call_is (to_call us u ys)),
     )
 
 pub to_operation_alike : (ts us : List PlainToken) (t u : PlainToken) (xs ys : List Field) → t.kind ≡ u.kind → all_alike SameField xs ys → Tells bare_operation operation_kinds (to_operation ts t xs) (to_operation us u ys)
 to_operation_alike ts us t u xs ys e a =
     let maps = told_maps bare_field field_kinds xs ys a in (
       bare_operation_is (to_operation ts t xs)
-      ∙ ap₂ (λ v zs. roll-Operation (record { verb = v; fields = zs; span = nowhere })) (ap kind_verb e) maps.0
-      ∙ sym (bare_operation_is (to_operation us u ys)),
+          ∙ ap₂ (λ v zs. roll-Operation (record { verb = v; fields = zs; span = nowhere })) (ap kind_verb e) maps.0
+          ∙ sym (bare_operation_is (to_operation us u ys)),
       operation_is (to_operation ts t xs)
-      ∙ ap₂ (λ v zs. word (verb_word v) ++ in_brackets (written.listed zs)) (ap kind_verb e) maps.1
-      ∙ sym (operation_is (to_operation us u ys)),
+          ∙ ap₂ (λ v zs. word (verb_word v) ++ in_brackets (written.listed zs)) (ap kind_verb e) maps.1
+          ∙ sym (operation_is (to_operation us u ys)),
     )
 
 -- ---- expressions
@@ -176,9 +176,9 @@ links_alike [] [] a = (refl, refl)
 links_alike (x ∷ xs) (y ∷ ys) a =
     let rest = links_alike xs ys a.1 in (
       ap₂ (λ p q. p ∷ q)
-      (bare_linked (kind_operator x.0.kind) x.1 ∙ ap₂ (λ o z. roll-Link (record { operator = o; operand = z })) (ap kind_operator a.0.0) a.0.1.0 ∙ sym (bare_linked (kind_operator y.0.kind) y.1)) rest.0,
+          (bare_linked (kind_operator x.0.kind) x.1 ∙ ap₂ (λ o z. roll-Link (record { operator = o; operand = z })) (ap kind_operator a.0.0) a.0.1.0 ∙ sym (bare_linked (kind_operator y.0.kind) y.1)) rest.0,
       ap₂ (λ p q. p ∷ q)
-      (joined_made (kind_operator x.0.kind) x.1 ∙ ap₂ (λ o (z : Said). record { operator = o; operand = z }) (ap kind_operator a.0.0) a.0.1.1 ∙ sym (joined_made (kind_operator y.0.kind) y.1)) rest.1,
+          (joined_made (kind_operator x.0.kind) x.1 ∙ ap₂ (λ o (z : Said). record { operator = o; operand = z }) (ap kind_operator a.0.0) a.0.1.1 ∙ sym (joined_made (kind_operator y.0.kind) y.1)) rest.1,
     )
 links_alike [] (y ∷ ys) a = absurd a
 links_alike (x ∷ xs) [] a = absurd a

@@ -116,11 +116,11 @@ to_simple_alike ts us (inr (inr (inr x))) (inr (inr (inr y))) a =
     let m = spans_maps (behind_marks x.1.1.0.1) (behind_marks y.1.1.0.1) (behind_alike (λ p q. SameExpr p.expr q.expr) x.1.1.0.1 y.1.1.0.1 a.1.1.0.1) in
     let f = ap kind_bytes a.1.1.0.0 in (
       bare_stmt_print (record { format = to_text x.1.1.0.0; arguments = behind_marks x.1.1.0.1; span = span_of ts })
-      ∙ ap₂ (λ b zs. stmts.Print (record { format = record { bytes = b; span = nowhere }; arguments = zs; span = nowhere })) f m.0
-      ∙ sym (bare_stmt_print (record { format = to_text y.1.1.0.0; arguments = behind_marks y.1.1.0.1; span = span_of us })),
+          ∙ ap₂ (λ b zs. stmts.Print (record { format = record { bytes = b; span = nowhere }; arguments = zs; span = nowhere })) f m.0
+          ∙ sym (bare_stmt_print (record { format = to_text y.1.1.0.0; arguments = behind_marks y.1.1.0.1; span = span_of us })),
       line_print (record { format = to_text x.1.1.0.0; arguments = behind_marks x.1.1.0.1; span = span_of ts })
-      ∙ ap₂ (λ b (zs : List Row). record { kinds = word words.Printf ++ in_brackets (one (plain.Str b) ++ behind_commas zs); ends = true }) f m.1
-      ∙ sym (line_print (record { format = to_text y.1.1.0.0; arguments = behind_marks y.1.1.0.1; span = span_of us })),
+          ∙ ap₂ (λ b (zs : List Row). record { kinds = word words.Printf ++ in_brackets (one (plain.Str b) ++ behind_commas zs); ends = true }) f m.1
+          ∙ sym (line_print (record { format = to_text y.1.1.0.0; arguments = behind_marks y.1.1.0.1; span = span_of us })),
     )
 to_simple_alike ts us (inl x) (inr y) a = absurd a
 to_simple_alike ts us (inr x) (inl y) a = absurd a
@@ -214,15 +214,15 @@ to_plain_alike ts us (inr (inr (inr (inr (inr (inl x)))))) (inr (inr (inr (inr (
     let step = maybe_alike bare_stmt stmt_line h.1.1.1.1 g.1.1.1.1 b.1.1.1.1 in
     let body = to_body_alike x.1.1 y.1.1 a.1.1 in (
       bare_for f
-      ∙ ap₂ (λ p q. stmts.For (roll-For (record { first = p; test = q; step = option_map bare_stmt (to_maybe h.1.1.1.1); body = bare_stmt (to_body x.1.1); span = nowhere }))) first.0 test.0
-      ∙ ap₂ (λ p q. stmts.For (roll-For (record { first = option_map bare_stmt (to_maybe g.0); test = option_map bare_expr (to_maybe g.1.1.0); step = p; body = q; span = nowhere }))) step.0 body.0
-      ∙ sym (bare_for e),
+          ∙ ap₂ (λ p q. stmts.For (roll-For (record { first = p; test = q; step = option_map bare_stmt (to_maybe h.1.1.1.1); body = bare_stmt (to_body x.1.1); span = nowhere }))) first.0 test.0
+          ∙ ap₂ (λ p q. stmts.For (roll-For (record { first = option_map bare_stmt (to_maybe g.0); test = option_map bare_expr (to_maybe g.1.1.0); step = p; body = q; span = nowhere }))) step.0 body.0
+          ∙ sym (bare_for e),
       line_for f
-      ∙ ap (λ (k : Row). record { kinds = k; ends = false }) (for_is f
-      ∙ ap₂ (λ p (q : Row). word words.For ++ (in_brackets (maybe_simple p ++ (mark marks.Semicolon ++ (q ++ (mark marks.Semicolon ++ maybe_simple (option_map stmt_line (to_maybe h.1.1.1.1)))))) ++ closed (stmt_line (to_body x.1.1)))) first.1 (same_maybe (to_maybe h.1.1.0) (to_maybe g.1.1.0) test.1)
-      ∙ ap₂ (λ p q. word words.For ++ (in_brackets (maybe_simple (option_map stmt_line (to_maybe g.0)) ++ (mark marks.Semicolon ++ (maybe_expr (to_maybe g.1.1.0) ++ (mark marks.Semicolon ++ maybe_simple p)))) ++ closed q)) step.1 body.1
-      ∙ sym (for_is e))
-      ∙ sym (line_for e),
+          ∙ ap (λ (k : Row). record { kinds = k; ends = false }) (for_is f
+          ∙ ap₂ (λ p (q : Row). word words.For ++ (in_brackets (maybe_simple p ++ (mark marks.Semicolon ++ (q ++ (mark marks.Semicolon ++ maybe_simple (option_map stmt_line (to_maybe h.1.1.1.1)))))) ++ closed (stmt_line (to_body x.1.1)))) first.1 (same_maybe (to_maybe h.1.1.0) (to_maybe g.1.1.0) test.1)
+          ∙ ap₂ (λ p q. word words.For ++ (in_brackets (maybe_simple (option_map stmt_line (to_maybe g.0)) ++ (mark marks.Semicolon ++ (maybe_expr (to_maybe g.1.1.0) ++ (mark marks.Semicolon ++ maybe_simple p)))) ++ closed q)) step.1 body.1
+          ∙ sym (for_is e))
+          ∙ sym (line_for e),
     )
 to_plain_alike ts us (inr (inr (inr (inr (inr (inr (inl x))))))) (inr (inr (inr (inr (inr (inr (inl y))))))) a =
     subst (λ k. SameStmt (to_leave ts x.0 x.0.kind) (to_leave us y.0 k)) a.0 (leaves ts us x.0 y.0 x.0.kind)
@@ -252,10 +252,13 @@ to_plain_alike ts us (inr (inr (inr (inr (inr (inr (inr x))))))) (inr (inr (inr 
 
 to_inner_alike : (xs ys : List (Variables ⊎ Stmt)) → all_alike (either_alike (Tells bare_variables variables_kinds) SameStmt) xs ys → all_alike SameStmt (to_inner xs) (to_inner ys)
 to_inner_alike [] [] a = tt
-to_inner_alike (inl x ∷ xs) (inl y ∷ ys) a = ((
+to_inner_alike (inl x ∷ xs) (inl y ∷ ys) a = (
+  (
     bare_stmt_variables x ∙ ap stmts.Variables a.0.0 ∙ sym (bare_stmt_variables y),
     line_variables x ∙ ap (λ (k : Row). record { kinds = k; ends = true }) a.0.1 ∙ sym (line_variables y),
-  ), to_inner_alike xs ys a.1)
+  ),
+  to_inner_alike xs ys a.1,
+)
 to_inner_alike (inr x ∷ xs) (inr y ∷ ys) a = (a.0, to_inner_alike xs ys a.1)
 to_inner_alike (inl x ∷ xs) (inr y ∷ ys) a = absurd a.0
 to_inner_alike (inr x ∷ xs) (inl y ∷ ys) a = absurd a.0
@@ -311,10 +314,13 @@ to_variables_alike ts us t u xs ys e a =
 to_parameters_alike : (xs ys : List (PlainToken × PlainToken)) → all_alike (λ p q. (p.0.kind ≡ q.0.kind) × (p.1.kind ≡ q.1.kind)) xs ys → all_alike SameParameter (to_parameters xs) (to_parameters ys)
 unfolding parameter_kinds
 to_parameters_alike [] [] a = tt
-to_parameters_alike (x ∷ xs) (y ∷ ys) a = ((
+to_parameters_alike (x ∷ xs) (y ∷ ys) a = (
+  (
     ap₂ (λ k i. record { type_name = kind_type k; name = record { bytes = kind_bytes i; span = nowhere }; span = nowhere }) a.0.0 a.0.1,
     ap₂ (λ k i. word (type_word (kind_type k)) ++ one (plain.Name (kind_bytes i))) a.0.0 a.0.1,
-  ), to_parameters_alike xs ys a.1)
+  ),
+  to_parameters_alike xs ys a.1,
+)
 to_parameters_alike [] (y ∷ ys) a = absurd a
 to_parameters_alike (x ∷ xs) [] a = absurd a
 
@@ -340,10 +346,10 @@ unfolding function_kinds
 function_alike ts us r q t u xs ys b c e k a d =
     let m = told_maps bare_parameter parameter_kinds xs ys a in (
       ap₂ (λ i j. items.Function (record { result = i; name = record { bytes = kind_bytes j; span = nowhere }; parameters = map bare_parameter xs; body = bare_block b; span = nowhere })) e k
-      ∙ ap₂ (λ i j. items.Function (record { result = q; name = record { bytes = kind_bytes u.kind; span = nowhere }; parameters = i; body = j; span = nowhere })) m.0 d.0,
+          ∙ ap₂ (λ i j. items.Function (record { result = q; name = record { bytes = kind_bytes u.kind; span = nowhere }; parameters = i; body = j; span = nowhere })) m.0 d.0,
       ap (map spaced)
-      (ap₂ (λ i j. word (result_word i) ++ (one (plain.Name (kind_bytes j)) ++ (in_brackets (written.listed (map parameter_kinds xs)) ++ block_kinds b))) e k
-      ∙ ap₂ (λ i (j : Row). word (result_word q) ++ (one (plain.Name (kind_bytes u.kind)) ++ (in_brackets (written.listed i) ++ j))) m.1 d.1),
+          (ap₂ (λ i j. word (result_word i) ++ (one (plain.Name (kind_bytes j)) ++ (in_brackets (written.listed (map parameter_kinds xs)) ++ block_kinds b))) e k
+          ∙ ap₂ (λ i (j : Row). word (result_word q) ++ (one (plain.Name (kind_bytes u.kind)) ++ (in_brackets (written.listed i) ++ j))) m.1 d.1),
     )
 
 is_there_alike : (x y : PlainToken ⊎ Unit {0}) → either_alike (λ t u. t.kind ≡ u.kind) (λ p q. Unit {0}) x y → is_there x ≡ is_there y

@@ -91,13 +91,13 @@ module _ (k : ℕ) (p : Part) (classes : List ℕ) (example : PlainToken) (of : 
       record {
         derivation = more mine rest.derivation;
         member =
-          and_from (has classes (class_of t) && (derives language y.derivation && clear (λ u. false) (tokens y.derivation))) (derives language rest.derivation && clear (goes_on language mine) (tokens rest.derivation))
-          (and_from (has classes (class_of t)) (derives language y.derivation && clear (λ u. false) (tokens y.derivation)) inner.0 (and_from (derives language y.derivation) (clear (λ u. false) (tokens y.derivation)) y.member (clear_none (tokens y.derivation))))
-          (and_from (derives language rest.derivation) (clear (goes_on language mine) (tokens rest.derivation)) rest.member (rest.begins (goes_on language mine) (λ u e. stays y.derivation y.member t u e)));
+            and_from (has classes (class_of t) && (derives language y.derivation && clear (λ u. false) (tokens y.derivation))) (derives language rest.derivation && clear (goes_on language mine) (tokens rest.derivation))
+            (and_from (has classes (class_of t)) (derives language y.derivation && clear (λ u. false) (tokens y.derivation)) inner.0 (and_from (derives language y.derivation) (clear (λ u. false) (tokens y.derivation)) y.member (clear_none (tokens y.derivation))))
+            (and_from (derives language rest.derivation) (clear (goes_on language mine) (tokens rest.derivation)) rest.member (rest.begins (goes_on language mine) (λ u e. stays y.derivation y.member t u e)));
         spelled =
-          ap (λ l. t.kind ∷ l) (kinds_append (tokens y.derivation) (tokens rest.derivation) ∙ ap₂ (λ a b. a ++ b) y.spelled rest.spelled)
-          ∙ ap (λ m. m ∷ (operand k (expr_said (of x)) ++ links k (map link_joined (links_of xs)))) op.0
-          ∙ ap (λ j. mark (operator_mark j.operator) ++ (operand k j.operand ++ links k (map link_joined (links_of xs)))) (sym (joined_made (kind_operator t.kind) (of x)));
+            ap (λ l. t.kind ∷ l) (kinds_append (tokens y.derivation) (tokens rest.derivation) ∙ ap₂ (λ a b. a ++ b) y.spelled rest.spelled)
+            ∙ ap (λ m. m ∷ (operand k (expr_said (of x)) ++ links k (map link_joined (links_of xs)))) op.0
+            ∙ ap (λ j. mark (operator_mark j.operator) ++ (operand k j.operand ++ links k (map link_joined (links_of xs)))) (sym (joined_made (kind_operator t.kind) (of x)));
         nested = (let a = y.nested in let b = rest.nested in omega arith);
         begins = λ f e. ap not (e t inner.0);
         bare = ap₂ (λ a b. a ∷ b) (bare_linked (kind_operator t.kind) (of x) ∙ ap (λ z. roll-Link (record { operator = kind_operator t.kind; operand = z })) y.same.0 ∙ sym (bare_linked (kind_operator t.kind) (of y.derivation))) rest.bare;
@@ -132,12 +132,12 @@ module _ (k : ℕ) (p : Part) (classes : List ℕ) (example : PlainToken) (of : 
         front = s.derivation;
         back = l.derivation;
         member =
-          and_from (derives language s.derivation) (derives language l.derivation && clear (goes_on language s.derivation) (tokens l.derivation)) s.member
-          (and_from (derives language l.derivation) (clear (goes_on language s.derivation) (tokens l.derivation)) l.member (l.begins (goes_on language s.derivation) (λ u c. quiet_before p s.derivation u s.member (level.apart u c))));
+            and_from (derives language s.derivation) (derives language l.derivation && clear (goes_on language s.derivation) (tokens l.derivation)) s.member
+            (and_from (derives language l.derivation) (clear (goes_on language s.derivation) (tokens l.derivation)) l.member (l.begins (goes_on language s.derivation) (λ u c. quiet_before p s.derivation u s.member (level.apart u c))));
         spelled = λ span.
-          kinds_append (tokens s.derivation) (tokens l.derivation) ∙ ap₂ (λ a b. a ++ b) s.spelled l.spelled
-          ∙ ap (λ i. operand i (expr_said (of y)) ++ links i (map link_joined (links_of ls))) (sym e)
-          ∙ ap (λ z. z.kinds) (sym (said_made (of y) (links_of ls) span));
+            kinds_append (tokens s.derivation) (tokens l.derivation) ∙ ap₂ (λ a b. a ++ b) s.spelled l.spelled
+            ∙ ap (λ i. operand i (expr_said (of y)) ++ links i (map link_joined (links_of ls))) (sym e)
+            ∙ ap (λ z. z.kinds) (sym (said_made (of y) (links_of ls) span));
         nested = (let a = s.nested in let b = l.nested in omega arith);
         same = λ one other. same_chains (of y) (of s.derivation) (links_of ls) (links_of l.derivation) one other s.same l.bare l.joined tt;
         rank = λ span. ap (λ z. z.rank) (said_made (of y) (links_of ls) span) ∙ e;

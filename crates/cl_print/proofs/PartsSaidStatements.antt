@@ -160,9 +160,9 @@ plain_are ts (inr (inr (inr (inr (inr (inl x)))))) o =
     let f = roll-For (record { first = to_maybe h.0; test = to_maybe h.1.1.0; step = to_maybe h.1.1.1.1; body = to_body x.1.1; span = span_of ts }) in
     ap closed (line_for f) ∙ append-nil (for_kinds f) ∙ for_is f
     ∙ ap₂ (λ (a b : Row). plain.Keyword words.For ∷ plain.Punctuator marks.OpenBracket
-        ∷ (((a ++ (plain.Punctuator marks.Semicolon ∷ (b ++ (plain.Punctuator marks.Semicolon ∷ maybe_simple (option_map stmt_line (to_maybe h.1.1.1.1)))))) ++ plain.Punctuator marks.CloseBracket ∷ []) ++ closed (stmt_line (to_body x.1.1)))) (simple_maybe h.0) (expr_maybe h.1.1.0)
+    ∷ (((a ++ (plain.Punctuator marks.Semicolon ∷ (b ++ (plain.Punctuator marks.Semicolon ∷ maybe_simple (option_map stmt_line (to_maybe h.1.1.1.1)))))) ++ plain.Punctuator marks.CloseBracket ∷ []) ++ closed (stmt_line (to_body x.1.1)))) (simple_maybe h.0) (expr_maybe h.1.1.0)
     ∙ ap₂ (λ (a b : Row). plain.Keyword words.For ∷ plain.Punctuator marks.OpenBracket
-        ∷ (((either_said (part_said parts.simple) (λ u. []) h.0 ++ (plain.Punctuator marks.Semicolon ∷ (either_said (part_said parts.expr) (λ u. []) h.1.1.0 ++ (plain.Punctuator marks.Semicolon ∷ a)))) ++ plain.Punctuator marks.CloseBracket ∷ []) ++ b)) (simple_maybe h.1.1.1.1) (body_said x.1.1)
+    ∷ (((either_said (part_said parts.simple) (λ u. []) h.0 ++ (plain.Punctuator marks.Semicolon ∷ (either_said (part_said parts.expr) (λ u. []) h.1.1.0 ++ (plain.Punctuator marks.Semicolon ∷ a)))) ++ plain.Punctuator marks.CloseBracket ∷ []) ++ b)) (simple_maybe h.1.1.1.1) (body_said x.1.1)
 plain_are ts (inr (inr (inr (inr (inr (inr (inl x))))))) o = leave_is ts x.0 x.0.kind
 plain_are ts (inr (inr (inr (inr (inr (inr (inr x))))))) o =
     ap closed (line_return (record { value = to_maybe x.1.0; span = span_of ts }))

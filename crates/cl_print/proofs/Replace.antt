@@ -174,15 +174,15 @@ replace (pair {a} {b} x y) st se f h w =
     record {
       derivation = pair v.derivation u.derivation;
       member =
-        and_from (derives language v.derivation) (derives language u.derivation && clear (goes_on language v.derivation) (tokens u.derivation)) v.member
-        (and_from (derives language u.derivation) (clear (goes_on language v.derivation) (tokens u.derivation)) u.member (stands a b x y v u fit.0 fit.1 parts.1 s2.1 parts.2));
+          and_from (derives language v.derivation) (derives language u.derivation && clear (goes_on language v.derivation) (tokens u.derivation)) v.member
+          (and_from (derives language u.derivation) (clear (goes_on language v.derivation) (tokens u.derivation)) u.member (stands a b x y v u fit.0 fit.1 parts.1 s2.1 parts.2));
       nested = (let m = v.nested in let n = u.nested in omega arith);
       elses = λ t e g. goes_pair (goes_on language u.derivation t) (goes_on language v.derivation t) (goes_on language y t) (goes_on language x t) (is_empty (tokens u.derivation)) (is_empty (tokens y)) u.empties (u.elses t e) (v.elses t e) g;
       empties = empty_append (tokens v.derivation) (tokens x) (tokens u.derivation) (tokens y) v.empties u.empties;
       fronts = λ k p.
-        (let both = and_parts (keeps_first a) (not (may_be_empty a)) k in
-        kept_front (tokens v.derivation) (tokens x) (tokens u.derivation) (tokens y) p v.empties
-        (some_of (opens language a) (may_be_empty a) (tokens x) (not-true (may_be_empty a) both.1) (derivation_starts bounds grammar_fits x fit.0 parts.0)) (v.fronts both.0 p));
+          (let both = and_parts (keeps_first a) (not (may_be_empty a)) k in
+          kept_front (tokens v.derivation) (tokens x) (tokens u.derivation) (tokens y) p v.empties
+          (some_of (opens language a) (may_be_empty a) (tokens x) (not-true (may_be_empty a) both.1) (derivation_starts bounds grammar_fits x fit.0 parts.0)) (v.fronts both.0 p));
       alike = (v.alike, u.alike);
       spelled = kinds_append (tokens v.derivation) (tokens u.derivation) ∙ ap₂ (λ p q. p ++ q) v.spelled u.spelled;
     }
@@ -215,8 +215,8 @@ replace (more {a} x xs) st se f h w =
     record {
       derivation = more v.derivation u.derivation;
       member =
-        and_from (derives language v.derivation) (derives language u.derivation && clear (goes_on language v.derivation) (tokens u.derivation)) v.member
-        (and_from (derives language u.derivation) (clear (goes_on language v.derivation) (tokens u.derivation)) u.member (apart_clear a (Many a) v.derivation u.derivation fit.0 f v.member u.member s1.1));
+          and_from (derives language v.derivation) (derives language u.derivation && clear (goes_on language v.derivation) (tokens u.derivation)) v.member
+          (and_from (derives language u.derivation) (clear (goes_on language v.derivation) (tokens u.derivation)) u.member (apart_clear a (Many a) v.derivation u.derivation fit.0 f v.member u.member s1.1));
       nested = (let m = v.nested in let n = u.nested in omega arith);
       elses = λ t e g. goes_pair (goes_on language u.derivation t) (goes_on language v.derivation t) (goes_on language xs t) (goes_on language x t) (is_empty (tokens u.derivation)) (is_empty (tokens xs)) u.empties (u.elses t e) (v.elses t e) g;
       empties = empty_append (tokens v.derivation) (tokens x) (tokens u.derivation) (tokens xs) v.empties u.empties;

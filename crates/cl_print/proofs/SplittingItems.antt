@@ -87,10 +87,11 @@ define_form d say = by d.is_negative
     by false = and_from (is_name d.name.bytes && true) _ (and_from (is_name d.name.bytes) true parts.0 refl) (and_from (is_literal_kind (lexeme_kind (lexeme_of (constant_kind d.literal.value)))) true literal refl)
 
 define_leads : (d : Define) (rest : List ℕ) → define_sayable d ≡ true → Leads true (text_of (define_written d) ++ rest) (define_pieces d) true rest
-define_leads d rest say =
-    (10 ∷ rest,
-    record { whole = define_whole d rest; form = define_form d say; longest = refl },
-    (rest, record { whole = refl; form = refl; longest = none_begin rest }, (refl, refl)))
+define_leads d rest say = (
+  10 ∷ rest,
+  record { whole = define_whole d rest; form = define_form d say; longest = refl },
+  (rest, record { whole = refl; form = refl; longest = none_begin rest }, (refl, refl)),
+)
 
 define_are : (d : Define) → define_sayable d ≡ true → AreOf (define_pieces d) (written_kinds (define_written d))
 unfolding define_written

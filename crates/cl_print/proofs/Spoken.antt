@@ -108,9 +108,9 @@ bracket v n ks s =
     record {
       derivation = node parts.primary (second (second (second (part (pair (leaf open_token) (pair s.derivation (leaf close_token)))))));
       member =
-        and_from (derives language s.derivation && (true && not (goes_on language s.derivation close_token))) (clear (λ t. false) (tokens s.derivation ++ close_token ∷ []))
-        (and_from (derives language s.derivation) (true && not (goes_on language s.derivation close_token)) s.member (ap not quiet))
-        (clear_none (tokens s.derivation ++ close_token ∷ []));
+          and_from (derives language s.derivation && (true && not (goes_on language s.derivation close_token))) (clear (λ t. false) (tokens s.derivation ++ close_token ∷ []))
+          (and_from (derives language s.derivation) (true && not (goes_on language s.derivation close_token)) s.member (ap not quiet))
+          (clear_none (tokens s.derivation ++ close_token ∷ []));
       spelled = ap (λ l. Punctuator marks.OpenBracket ∷ l) (kinds_append (tokens s.derivation) (close_token ∷ []) ∙ ap (λ (l : Row). l ++ Punctuator marks.CloseBracket ∷ []) s.spelled);
       nested = (let h = s.nested in omega arith);
       same = s.same;

@@ -75,9 +75,9 @@ turned t (node s (pair (leaf n) (first i))) c h =
     record {
       derivation = first (pair (leaf n) (second (pair (first i) (second (leaf t)))));
       member =
-        and_from (has (0 ∷ []) (class_of n)) ((derives language i && (has step_classes (class_of t) && not (goes_on language i t))) && clear (λ u. false) (tokens i ++ t ∷ [])) p.0
-        (and_from (derives language i && (has step_classes (class_of t) && not (goes_on language i t))) (clear (λ u. false) (tokens i ++ t ∷ []))
-        (and_from (derives language i) (has step_classes (class_of t) && not (goes_on language i t)) p.1 (and_from (has step_classes (class_of t)) (not (goes_on language i t)) c (ap not q))) (clear_none (tokens i ++ t ∷ [])));
+          and_from (has (0 ∷ []) (class_of n)) ((derives language i && (has step_classes (class_of t) && not (goes_on language i t))) && clear (λ u. false) (tokens i ++ t ∷ [])) p.0
+          (and_from (derives language i && (has step_classes (class_of t) && not (goes_on language i t))) (clear (λ u. false) (tokens i ++ t ∷ []))
+          (and_from (derives language i) (has step_classes (class_of t) && not (goes_on language i t)) p.1 (and_from (has step_classes (class_of t)) (not (goes_on language i t)) c (ap not q))) (clear_none (tokens i ++ t ∷ [])));
       spelled = ap (λ l. n.kind ∷ l) (kinds_append (tokens i) (t ∷ []));
       nested = omega arith;
       alike = λ ts. to_assign_alike ts (n ∷ (tokens i ++ t ∷ [])) _ _ (to_step (is_decrement t.kind)) (to_step (is_decrement t.kind))
@@ -120,8 +120,8 @@ simple_step (second (first (pair (leaf t) (node s z)))) h w =
       fronts = λ k f. absurd (not_both k);
       alike = (one_same.0 ∙ two_same.0, one_same.1 ∙ two_same.1);
       spelled =
-        r.spelled ∙ ap₂ (λ (a : Row) k. a ++ k ∷ []) v.spelled (sym (step_only t.kind c))
-        ∙ sym (assigned_said (t ∷ tokens z) p step ∙ ap (λ (l : Row). part_said parts.place p ++ l) (stepped_said (is_decrement t.kind)));
+          r.spelled ∙ ap₂ (λ (a : Row) k. a ++ k ∷ []) v.spelled (sym (step_only t.kind c))
+          ∙ sym (assigned_said (t ∷ tokens z) p step ∙ ap (λ (l : Row). part_said parts.place p ++ l) (stepped_said (is_decrement t.kind)));
     }
 
 -- ---- plain statements
@@ -140,13 +140,25 @@ condition_settled = (mark_only marks.OpenBracket, (tt, mark_only marks.CloseBrac
 plain_settled : Settled (rules parts.plain)
 plain_settled = (
   mark_only marks.Semicolon,
-  ((tt, mark_only marks.Semicolon),
-  ((word_only words.If, (condition_settled, (body_settled, ((word_only words.Else, body_settled), tt)))),
-  ((word_only words.While, (condition_settled, body_settled)),
-  ((word_only words.Do, (body_settled, (word_only words.While, (condition_settled, mark_only marks.Semicolon)))),
-  ((word_only words.For, ((mark_only marks.OpenBracket, (((tt, tt), (mark_only marks.Semicolon, ((tt, tt), (mark_only marks.Semicolon, (tt, tt))))), mark_only marks.CloseBracket)), body_settled)),
-  ((leave_only, mark_only marks.Semicolon),
-  (word_only words.Return, ((tt, tt), mark_only marks.Semicolon)))))))),
+  (
+    (tt, mark_only marks.Semicolon),
+    (
+      (word_only words.If, (condition_settled, (body_settled, ((word_only words.Else, body_settled), tt)))),
+      (
+        (word_only words.While, (condition_settled, body_settled)),
+        (
+          (word_only words.Do, (body_settled, (word_only words.While, (condition_settled, mark_only marks.Semicolon)))),
+          (
+            (word_only words.For, ((mark_only marks.OpenBracket, (((tt, tt), (mark_only marks.Semicolon, ((tt, tt), (mark_only marks.Semicolon, (tt, tt))))), mark_only marks.CloseBracket)), body_settled)),
+            (
+              (leave_only, mark_only marks.Semicolon),
+              (word_only words.Return, ((tt, tt), mark_only marks.Semicolon)),
+            ),
+          ),
+        ),
+      ),
+    ),
+  ),
 )
 
 pub plain_step : (x : Derivation rules (rules parts.plain)) → derives language x ≡ true → Within x → Canon parts.plain x
@@ -202,8 +214,10 @@ params_step (part (pair (leaf o) (pair (first (first (leaf v))) (leaf c)))) h w 
 item_settled : Settled (rules parts.item)
 item_settled = (
   (define_only, (name_only, ((mark_only marks.Minus, tt), literal_only))),
-  ((type_only, (name_only, ((tt, tt), ((tt, tt), ((mark_only marks.Comma, tt), mark_only marks.Semicolon))))),
-  ((word_only words.Void, tt), (name_only, (tt, tt)))),
+  (
+    (type_only, (name_only, ((tt, tt), ((tt, tt), ((mark_only marks.Comma, tt), mark_only marks.Semicolon))))),
+    ((word_only words.Void, tt), (name_only, (tt, tt))),
+  ),
 )
 
 define_are : (ts : List PlainToken) (x : PlainToken × (PlainToken × ((PlainToken ⊎ Unit {0}) × PlainToken))) → part_said parts.item (build parts.item ts (inl x)) ≡ parts_said (rules parts.item) (inl x)
@@ -270,6 +284,6 @@ item_step (second (second (pair (second empty) (pair (leaf n) (pair (node p z) (
       fronts = λ k f. absurd (not_both k);
       alike = function_alike (tokens x) (tokens d) (Some types.Int) (Some types.Int) n n _ _ _ _ refl refl v.alike u.alike;
       spelled =
-        ap₂ (λ k (l : Row). plain.Keyword words.Int ∷ k ∷ l) (sym (name_only n.kind inner.0)) (kinds_append (tokens v.derivation) (tokens u.derivation) ∙ ap₂ (λ (a c : Row). a ++ c) v.spelled u.spelled)
-        ∙ sym (int_are (tokens x) n (value meaning {r = Symbol parts.params} (node parts.params z)) (value meaning {r = Symbol parts.block} (node parts.block y)));
+          ap₂ (λ k (l : Row). plain.Keyword words.Int ∷ k ∷ l) (sym (name_only n.kind inner.0)) (kinds_append (tokens v.derivation) (tokens u.derivation) ∙ ap₂ (λ (a c : Row). a ++ c) v.spelled u.spelled)
+          ∙ sym (int_are (tokens x) n (value meaning {r = Symbol parts.params} (node parts.params z)) (value meaning {r = Symbol parts.block} (node parts.block y)));
     }
