@@ -1,0 +1,17 @@
+pub mod Declarations
+pub mod Ends
+pub mod Expressions
+pub mod Faults
+pub mod Folds
+pub mod Formats
+pub mod Items
+pub mod Journals
+pub mod Loops
+pub mod Newest
+pub mod Notes
+pub mod Numbers
+pub mod Statements
+pub mod Tables
+pub mod Types
+pub mod Unit
+pub mod Walks

@@ -1,0 +1,28 @@
+//! Scopes, types of expressions and the faults of a tree.
+//!
+//! `specs/` lists all faults of a tree by a walk in the order of its text.
+#![tactic(auto)]
+
+mod context;
+mod declare;
+mod declared;
+mod directive;
+mod expression;
+mod fault;
+mod format;
+mod item;
+mod journal;
+mod judge;
+mod number;
+mod public;
+mod scopes;
+mod statement;
+
+pub use context::{Access, Context, Purpose, Reach};
+pub use declared::{Declared, FunctionType, Number};
+pub use directive::Directive;
+pub use expression::MAX_FIELDS;
+pub use fault::{Fault, TypeKind};
+pub use journal::{Journal, MAX_FUNCTIONS, MAX_SITES};
+pub use public::{TypeEnd, Typed, check};
+pub use scopes::Scopes;
