@@ -8,9 +8,10 @@ use Rattle.cl_ast.specs.declared.tree.TypeName.TheVariants as types
 use Rattle.cl_ast.specs.declared.statement.Function.{Function}
 use Rattle.cl_ast.specs.declared.statement.Parameter.{Parameter}
 use Rattle.cl_ast.specs.declared.statement.Size.{Size}
-use Rattle.cl_meaning.specs.Doing.{◌>>=◌, ◌>>◌, pure, trap, tick, claim, release, variables, set_variables, checked}
-use Rattle.cl_meaning.specs.Numbers.{converted, zero_of, field_type}
-use Rattle.cl_meaning.specs.Variables.{Name, Variable, same_name, called_with, back_in}
+use Rattle.cl_model.specs.Doing.{◌>>=◌, ◌>>◌, pure, trap, tick, claim, release, variables, set_variables, checked}
+use Rattle.cl_meaning.specs.Operators.{converted, zero_of, field_type}
+use Rattle.cl_listing.specs.Names.{Name, same_name}
+use Rattle.cl_meaning.specs.Variables.{Variable, called_with, back_in}
 use Rattle.cl_meaning.specs.Operations.{Does}
 use Rattle.cl_meaning.specs.Expressions.{Surroundings}
 use Rattle.cl_meaning.specs.Statements.{Exit, Returned, body_does}

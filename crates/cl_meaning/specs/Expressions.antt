@@ -13,10 +13,11 @@ use Rattle.cl_ast.specs.declared.tree.Operator.TheVariants as operators
 use Rattle.cl_ast.specs.declared.tree.Verb.{Verb}
 use Rattle.cl_ast.specs.declared.tree.Verb.TheVariants as verbs
 use Rattle.cl_ast.specs.declared.tree.Expr.TheOpen.{Expr-F, Place-F, Call-F, Operation-F, Field-F, Formal-F, Chain-F, Link-F, Prefix-F}
-use Rattle.cl_meaning.specs.Folds.{fold_expr, fold_place, fold_call, fold_operation}
-use Rattle.cl_meaning.specs.Doing.{◌>>=◌, pure, checked, each, through}
-use Rattle.cl_meaning.specs.Numbers.{literal, operated, negated, truth, is_zero}
-use Rattle.cl_meaning.specs.Variables.{Name}
+use Rattle.cl_listing.specs.Folds.{fold_expr, fold_place, fold_call, fold_operation}
+use Rattle.cl_model.specs.Doing.{◌>>=◌, pure, checked, each, through}
+use Rattle.cl_model.specs.Numbers.{negated, truth, is_zero}
+use Rattle.cl_meaning.specs.Operators.{literal, operated}
+use Rattle.cl_listing.specs.Names.{Name}
 use Rattle.cl_meaning.specs.Operations.{Does, place, value_at, Aim, Holds, formal, requested, evaluated}
 
 -- ---- what a part does

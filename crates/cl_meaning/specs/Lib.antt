@@ -1,13 +1,9 @@
-pub mod Folds
-pub mod Doing
-pub mod Numbers
+pub mod Operators
 pub mod Variables
 pub mod Operations
 pub mod Expressions
 pub mod Printing
 pub mod Statements
-pub mod Listing
 pub mod Outer
 pub mod Calls
 pub mod Process
-pub mod Laws

@@ -9,10 +9,12 @@ use Rattle.cl_value.specs.Plain.{PlainPart, PlainAsk, Out, In, Rd, Inp, Rdp, Eva
 use Rattle.cl_ast.specs.declared.tree.TypeName.{TypeName}
 use Rattle.cl_ast.specs.declared.tree.Verb.{Verb}
 use Rattle.cl_ast.specs.declared.tree.Verb.TheVariants as verbs
-use Rattle.cl_meaning.specs.Doing as doing
-use Rattle.cl_meaning.specs.Doing.{Checked, ◌>>=◌, ◌>>◌, pure, trap, ask, variables, set_variables, checked, each}
-use Rattle.cl_meaning.specs.Numbers.{number, truth, converted, field_type}
-use Rattle.cl_meaning.specs.Variables.{Name, Variable, Variables, found, element, with_element, changed}
+use Rattle.cl_model.specs.Doing as doing
+use Rattle.cl_model.specs.Doing.{Checked, ◌>>=◌, ◌>>◌, pure, trap, ask, variables, set_variables, checked, each}
+use Rattle.cl_model.specs.Numbers.{number, truth}
+use Rattle.cl_meaning.specs.Operators.{converted, field_type}
+use Rattle.cl_listing.specs.Names.{Name}
+use Rattle.cl_meaning.specs.Variables.{Variable, Variables, found, element, with_element, changed}
 
 abbrev pub Does : Type 0 → Type 0
 Does A = doing.Does Variables A

@@ -17,9 +17,11 @@ use Rattle.cl_ast.specs.declared.statement.Define.{Define}
 use Rattle.cl_ast.specs.declared.statement.Function.{Function}
 use Rattle.cl_ast.specs.declared.statement.Item.{Item}
 use Rattle.cl_ast.specs.declared.statement.Item.TheVariants as items
-use Rattle.cl_meaning.specs.Folds.{fold_expr, fold_block}
-use Rattle.cl_meaning.specs.Numbers.{number, literal, converted, zero_of}
-use Rattle.cl_meaning.specs.Variables.{Name, same_name, Variable, Scope, in_scope, nowhere}
+use Rattle.cl_listing.specs.Folds.{fold_expr, fold_block}
+use Rattle.cl_model.specs.Numbers.{number}
+use Rattle.cl_meaning.specs.Operators.{literal, converted, zero_of}
+use Rattle.cl_listing.specs.Names.{Name, same_name}
+use Rattle.cl_meaning.specs.Variables.{Variable, Scope, in_scope, nowhere}
 
 -- ---- constants
 
@@ -72,7 +74,7 @@ initial types.Int n = Int n
 initial types.Long n = Long n
 initial types.Char n = initial_char (converted types.Char (Long n))
   where
-    initial_char : Rattle.cl_meaning.specs.Doing.Checked Value → Value
+    initial_char : Rattle.cl_model.specs.Doing.Checked Value → Value
     initial_char (Ok v) = v
     initial_char (Err t) = Char 0
 

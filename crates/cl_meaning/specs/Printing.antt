@@ -3,7 +3,7 @@ use Rattle.std.specs.Prelude.{ℕ, ◌==◌, if◌then◌else◌, List, [], ◌�
 use Rattle.std.specs.Fmt.{signed_decimal}
 use Rattle.cl_value.specs.declared.value.Value.{Value}
 use Rattle.cl_value.specs.declared.value.Value.TheVariants.{Int}
-use Rattle.cl_meaning.specs.Numbers.{number, byte_of}
+use Rattle.cl_model.specs.Numbers.{number, byte_of}
 
 -- the first value that is left; a tree without faults has one
 abbrev pub first : List Value → Value

@@ -7,11 +7,11 @@ use Rattle.cl_ast.specs.declared.statement.Function.{Function}
 use Rattle.cl_ast.specs.declared.statement.Item.{Item}
 use Rattle.cl_ast.specs.declared.tree.TypeName.TheVariants as types
 use Rattle.cl_model.specs.Demand.{Demands}
-use Rattle.cl_meaning.specs.Doing.{State, ◌>>=◌, ◌>>◌, pure, claim, demand_of}
-use Rattle.cl_meaning.specs.Numbers.{zero_of}
+use Rattle.cl_model.specs.Doing.{State, ◌>>=◌, ◌>>◌, pure, claim, demand_of}
+use Rattle.cl_meaning.specs.Operators.{zero_of}
 use Rattle.cl_meaning.specs.Variables.{Variables}
 use Rattle.cl_meaning.specs.Operations.{Does}
-use Rattle.cl_meaning.specs.Listing.{in_items, site_at, texts_of, text_number}
+use Rattle.cl_listing.specs.Listing.{in_items, site_at, texts_of, text_number}
 use Rattle.cl_meaning.specs.Outer.{outer, size_in, global_cells, functions_of}
 use Rattle.cl_meaning.specs.Calls.{Fixed, function_named, calls, run}
 

@@ -19,10 +19,12 @@ use Rattle.cl_ast.specs.declared.statement.Size.{Size}
 use Rattle.cl_ast.specs.declared.statement.Change.{Change}
 use Rattle.cl_ast.specs.declared.statement.Change.TheVariants as changes
 use Rattle.cl_ast.specs.declared.statement.Print.{Print}
-use Rattle.cl_meaning.specs.Folds.{fold_stmt, fold_block}
-use Rattle.cl_meaning.specs.Doing.{◌>>=◌, ◌>>◌, pure, trap, print, tick, ticks_left, variables, set_variables, checked, each}
-use Rattle.cl_meaning.specs.Numbers.{converted, zero_of, is_zero, operated}
-use Rattle.cl_meaning.specs.Variables.{Name, declared, entered, left}
+use Rattle.cl_listing.specs.Folds.{fold_stmt, fold_block}
+use Rattle.cl_model.specs.Doing.{◌>>=◌, ◌>>◌, pure, trap, print, tick, ticks_left, variables, set_variables, checked, each}
+use Rattle.cl_model.specs.Numbers.{is_zero}
+use Rattle.cl_meaning.specs.Operators.{converted, zero_of, operated}
+use Rattle.cl_listing.specs.Names.{Name}
+use Rattle.cl_meaning.specs.Variables.{declared, entered, left}
 use Rattle.cl_meaning.specs.Operations.{Does, value_at, store}
 use Rattle.cl_meaning.specs.Printing.{filled}
 use Rattle.cl_meaning.specs.Expressions.{Surroundings, PlaceDoes, value, place_meant, call, operation}

@@ -1,17 +1,11 @@
 -- Variables in scopes. (ISO/IEC 9899:1999, 6.2.1.)
-use Rattle.std.specs.Prelude.{ℕ, nat_eq, if◌then◌else◌, List, [], ◌∷◌, ◌++◌, Bool, slice_get, slice_set, unwrap_or}
+use Rattle.std.specs.Prelude.{ℕ, if◌then◌else◌, List, [], ◌∷◌, ◌++◌, Bool, slice_get, slice_set, unwrap_or}
 use Rattle.std.specs.List.{list_any}
-use Rattle.std.specs.Cmp.Lexicographic.{pointwise}
 use Rattle.cl_value.specs.declared.value.Value.{Value}
 use Rattle.cl_ast.specs.declared.tree.TypeName.{TypeName}
 use Rattle.cl_ast.specs.declared.tree.TypeName.TheVariants as types
-use Rattle.cl_meaning.specs.Numbers.{zero_of}
-
-abbrev pub Name : Type 0
-Name = List ℕ
-
-abbrev pub same_name : Name → Name → Bool
-same_name a b = pointwise nat_eq a b
+use Rattle.cl_listing.specs.Names.{Name, same_name}
+use Rattle.cl_meaning.specs.Operators.{zero_of}
 
 -- a variable with its values, one but for an array; a defined constant stands beside them
 pub record Variable : Type 0 where

@@ -1,5 +1,8 @@
 pub mod Bag
 pub mod Demand
+pub mod Doing
+pub mod Numbers
+pub mod Laws
 pub mod Machine
 pub mod Ends
 pub mod Good

@@ -15,8 +15,8 @@ use Rattle.cl_ast.specs.declared.statement.Change.{Change}
 use Rattle.cl_ast.specs.declared.statement.Change.TheVariants as changes
 use Rattle.cl_ast.specs.declared.statement.Item.{Item}
 use Rattle.cl_ast.specs.declared.statement.Item.TheVariants as items
-use Rattle.cl_meaning.specs.Folds.{fold_expr, fold_place, fold_call, fold_operation, fold_block}
-use Rattle.cl_meaning.specs.Variables.{same_name}
+use Rattle.cl_listing.specs.Folds.{fold_expr, fold_place, fold_call, fold_operation, fold_block}
+use Rattle.cl_listing.specs.Names.{same_name}
 
 -- an operation, at its word, or a string literal that is a field
 pub data Entry : Type 0 where

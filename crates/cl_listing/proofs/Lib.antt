@@ -1,0 +1,5 @@
+pub mod Opens
+pub mod Rules
+pub mod Sentences
+pub mod Walking
+pub mod Numbers
