@@ -1,0 +1,154 @@
+use crate::{Globals, Locals, Variable, converted, negated, operated};
+use cl_ast::{Operator, TypeName};
+use cl_value::{Trap, Value};
+use std::alloc::{AllocError, Global};
+use std::test::Fail;
+
+#[test]
+fn arithmetic_cuts_wraps_and_traps(rt: HostRuntime) -> Result<(), Fail> {
+    let least = Value::Int(i32::MIN);
+    let table = [
+        (
+            Operator::Divide,
+            Value::Int(-7),
+            Value::Int(2),
+            Ok(Value::Int(-3)),
+        ),
+        (
+            Operator::Remainder,
+            Value::Int(-7),
+            Value::Int(2),
+            Ok(Value::Int(-1)),
+        ),
+        (
+            Operator::Remainder,
+            Value::Int(7),
+            Value::Int(-2),
+            Ok(Value::Int(1)),
+        ),
+        (
+            Operator::Remainder,
+            least,
+            Value::Int(-1),
+            Err(Trap::Overflow),
+        ),
+        (
+            Operator::Divide,
+            least,
+            Value::Long(-1),
+            Ok(Value::Long(2_147_483_648)),
+        ),
+        (
+            Operator::Divide,
+            Value::Long(i64::MIN),
+            Value::Int(-1),
+            Err(Trap::Overflow),
+        ),
+        (
+            Operator::Divide,
+            Value::Int(1),
+            Value::Char(0),
+            Err(Trap::DivideByZero),
+        ),
+        (
+            Operator::Add,
+            Value::Int(i32::MAX),
+            Value::Char(1),
+            Err(Trap::Overflow),
+        ),
+        (
+            Operator::Multiply,
+            Value::Char(255),
+            Value::Char(255),
+            Ok(Value::Int(65025)),
+        ),
+        (
+            Operator::Multiply,
+            Value::Long(i64::MAX),
+            Value::Long(2),
+            Err(Trap::Overflow),
+        ),
+        (
+            Operator::Less,
+            Value::Int(-1),
+            Value::Char(255),
+            Ok(Value::Int(1)),
+        ),
+    ];
+    for (operator, a, b, wanted) in table {
+        assert_eq!(rt;
+            operated(operator, a, b),
+            wanted,
+            "{a:?} {operator:?} {b:?}"
+        );
+    }
+    assert_eq!(rt; negated(least), Err(Trap::Overflow));
+    assert_eq!(rt; negated(Value::Char(7)), Ok(Value::Int(-7)));
+    assert_eq!(rt;
+        converted(TypeName::Char, Value::Int(300)),
+        Ok(Value::Char(44))
+    );
+    assert_eq!(rt;
+        converted(TypeName::Char, Value::Int(-1)),
+        Ok(Value::Char(255))
+    );
+    assert_eq!(rt;
+        converted(TypeName::Int, Value::Long(2_147_483_648)),
+        Err(Trap::Overflow)
+    );
+    Ok(())
+}
+
+// A variable of type `int` with one value.
+fn int<'a>(alloc: Global, name: &'a [u8], n: i32) -> Result<Variable<'a>, AllocError> {
+    let mut values = Vec::new(alloc);
+    values.push(Value::Int(n))?;
+    Ok(Variable {
+        name,
+        of: TypeName::Int,
+        values,
+    })
+}
+
+#[test]
+fn an_inner_name_hides_until_its_scope_ends(rt: HostRuntime) -> Result<(), Fail> {
+    let alloc = rt.alloc();
+    let mut locals = Locals::new(alloc);
+    locals.enter(alloc)?;
+    locals.declare(int(alloc, b"a", 1)?)?;
+    locals.enter(alloc)?;
+    locals.declare(int(alloc, b"a", 2)?)?;
+    assert!(rt; locals.assign(b"a", 0, Value::Int(3)));
+    assert!(rt; !locals.assign(b"b", 0, Value::Int(3)));
+    let inner = locals
+        .find(b"a")
+        .and_then(|found| found.values.first().copied());
+    assert_eq!(rt; inner, Some(Value::Int(3)));
+    locals.leave();
+    let outer = locals
+        .find(b"a")
+        .and_then(|found| found.values.first().copied());
+    assert_eq!(rt; outer, Some(Value::Int(1)));
+    assert!(rt; locals.find(b"b").is_none());
+    Ok(())
+}
+
+#[test]
+fn the_first_global_of_a_name_counts(rt: HostRuntime) -> Result<(), Fail> {
+    let alloc = rt.alloc();
+    let mut globals = Globals::new(alloc);
+    globals.add(int(alloc, b"a", 1)?)?;
+    globals.add(int(alloc, b"b", 2)?)?;
+    globals.add(int(alloc, b"a", 3)?)?;
+    globals.assign(b"b", 0, Value::Int(4));
+    globals.assign(b"c", 0, Value::Int(5));
+    let a = globals
+        .find(b"a")
+        .and_then(|found| found.values.first().copied());
+    let b = globals
+        .find(b"b")
+        .and_then(|found| found.values.first().copied());
+    assert_eq!(rt; a, Some(Value::Int(1)));
+    assert_eq!(rt; b, Some(Value::Int(4)));
+    Ok(())
+}
