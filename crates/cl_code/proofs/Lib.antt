@@ -1,0 +1,7 @@
+mod RuleRows
+mod Rows
+mod StartRows
+pub mod LawProofs
+pub mod Keeping
+pub mod Step
+pub mod Fine

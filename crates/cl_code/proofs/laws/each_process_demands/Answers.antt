@@ -1,0 +1,5 @@
+use Rattle.cl_code.proofs.LawProofs.{are_demands}
+use Rattle.cl_code.proofs.laws.each_process_demands.Goals as goal
+
+pub returns : goal.returns
+returns c = record { laws = are_demands }

@@ -1,0 +1,11 @@
+pub mod Plain
+pub mod Formats
+pub mod Sites
+pub mod Reach
+pub mod Rules
+pub mod Valid
+pub mod Arithmetic
+pub mod Machine
+pub mod Process
+pub mod Laws
+pub mod Starts

@@ -1,0 +1,19 @@
+//! The code of a program: instructions for a machine with a stack, when a program is valid, and what its
+//! code means.
+//!
+//! The definitions stand over plain data (`specs/Plain.antt`): the rules of a valid program
+//! (`specs/Rules.antt`, `Valid.antt`), and what each of its processes demands after each list of replies
+//! (`specs/Machine.antt`, `Process.antt`). The type `Program` holds valid programs alone.
+#![tactic(auto)]
+
+mod function;
+mod instr;
+mod laws;
+mod parts;
+mod program;
+
+pub use function::Function;
+pub use instr::Instr;
+pub use laws::each_process_demands;
+pub use parts::ProgramParts;
+pub use program::Program;
