@@ -71,19 +71,19 @@ field_step x h w = outer_step parts.field x refl (text_only, ((mark_only marks.Q
 
 -- ---- literals, names, predicates and brackets
 
-abbrev NamedRow : Rule PlainToken Part
+abbrev pub NamedRow : Rule PlainToken Part
 NamedRow = name ⨾ (Symbol parts.arguments ∣ maybe (Symbol parts.index))
 
-abbrev PredicateRow : Rule PlainToken Part
+abbrev pub PredicateRow : Rule PlainToken Part
 PredicateRow = word_of words.Inp (words.Rdp ∷ []) ⨾ Symbol parts.fields
 
-named_said : (ts : List PlainToken) (t : PlainToken) (y : List Expr ⊎ (Index ⊎ Unit {0})) → expr_said (to_named ts t y) ≡ close (parts_said NamedRow (t, y))
+pub named_said : (ts : List PlainToken) (t : PlainToken) (y : List Expr ⊎ (Index ⊎ Unit {0})) → expr_said (to_named ts t y) ≡ close (parts_said NamedRow (t, y))
 unfolding one
 named_said ts t (inl xs) = said_call (to_call ts t xs) ∙ ap close (call_is (to_call ts t xs))
 named_said ts t (inr (inl i)) = said_place (to_place ts t (inl i)) ∙ ap close (place_is (to_place ts t (inl i)))
 named_said ts t (inr (inr u)) = said_place (to_place ts t (inr u)) ∙ ap close (place_is (to_place ts t (inr u)))
 
-predicate_said : (ts : List PlainToken) (t : PlainToken) (xs : List Field) → expr_said (exprs.Operation (to_operation ts t xs)) ≡ close (parts_said PredicateRow (t, xs))
+pub predicate_said : (ts : List PlainToken) (t : PlainToken) (xs : List Field) → expr_said (exprs.Operation (to_operation ts t xs)) ≡ close (parts_said PredicateRow (t, xs))
 unfolding one
 predicate_said ts t xs = said_operation (to_operation ts t xs) ∙ ap close (operation_is (to_operation ts t xs))
 
@@ -143,7 +143,7 @@ primary_step (second (second (second (part (pair (leaf o) (pair (node e z) (leaf
 
 -- ---- prefix operators
 
-prefix_mark : Bool → Mark
+pub prefix_mark : Bool → Mark
 prefix_mark true = marks.Not
 prefix_mark false = marks.Minus
 
@@ -156,7 +156,7 @@ prefix_only (plain.Keyword words.Int) h = absurd (not_both h)
 prefix_only (plain.Keyword v) h = absurd (not_both h)
 prefix_only k h = absurd (not_both h)
 
-prefix_said : (b : Bool) (x : Expr) (span : Span) → expr_said (to_prefix b (roll-Prefix (record { operand = x; span = span }))) ≡ prefixed (prefix_mark b) (operand 2 (expr_said x))
+pub prefix_said : (b : Bool) (x : Expr) (span : Span) → expr_said (to_prefix b (roll-Prefix (record { operand = x; span = span }))) ≡ prefixed (prefix_mark b) (operand 2 (expr_said x))
 unfolding prefix_mark
 prefix_said true x span = said_denied x span
 prefix_said false x span = said_negated x span

@@ -24,5 +24,8 @@ mod LevelSteps
 mod PartsSaidStatements
 mod StatementSteps
 mod Canonical
-mod Back
+mod Lexed
+mod Fine
+mod FineSteps
+pub mod Back
 mod Rows

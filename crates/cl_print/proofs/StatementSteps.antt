@@ -96,7 +96,7 @@ turned t (node s (pair (leaf n) (second empty))) c h =
           (place_alike n n (to_name n) (to_name n) (index_value (inr tt)) (index_value (inr tt)) (span_of (n ∷ [])) (place_span n (inr tt)) refl refl refl) (refl, refl);
     }
 
-simple_settled : Settled (rules parts.simple)
+pub simple_settled : Settled (rules parts.simple)
 simple_settled = ((name_only, (tt, ((tt, tt), ((change_only, tt), step_only)))), ((step_only, tt), ((verb_only, tt), (word_only words.Printf, (mark_only marks.OpenBracket, ((text_only, (mark_only marks.Comma, tt)), mark_only marks.CloseBracket))))))
 
 pub simple_step : (x : Derivation rules (rules parts.simple)) → derives language x ≡ true → Within x → Canon parts.simple x
@@ -126,7 +126,7 @@ simple_step (second (first (pair (leaf t) (node s z)))) h w =
 
 -- ---- plain statements
 
-ends_of : (x : Derivation rules (rules parts.plain)) → Ends (value meaning x)
+pub ends_of : (x : Derivation rules (rules parts.plain)) → Ends (value meaning x)
 ends_of (first x) = tt
 ends_of (second (first (pair (node s z) u))) = simple_ends (tokens z) (value meaning z)
 ends_of (second (second x)) = tt
@@ -137,7 +137,7 @@ body_settled = (tt, tt)
 condition_settled : Settled parts.condition
 condition_settled = (mark_only marks.OpenBracket, (tt, mark_only marks.CloseBracket))
 
-plain_settled : Settled (rules parts.plain)
+pub plain_settled : Settled (rules parts.plain)
 plain_settled = (
   mark_only marks.Semicolon,
   (
@@ -171,15 +171,15 @@ unfolding one parameter_kinds
 parameters_said [] = refl
 parameters_said (x ∷ xs) = ap (λ l. plain.Punctuator marks.Comma ∷ plain.Keyword (type_word (kind_type x.1.0.kind)) ∷ plain.Name (token_bytes x.1.1) ∷ l) (parameters_said xs)
 
-params_settled : Settled (rules parts.params)
+pub params_settled : Settled (rules parts.params)
 params_settled = (mark_only marks.OpenBracket, (((word_only words.Void, ((type_only, name_only), (mark_only marks.Comma, (type_only, name_only)))), tt), mark_only marks.CloseBracket))
 
-params_are : (ts : List PlainToken) (o c : PlainToken) (y : (PlainToken × PlainToken) × List (PlainToken × (PlainToken × PlainToken))) →
+pub params_are : (ts : List PlainToken) (o c : PlainToken) (y : (PlainToken × PlainToken) × List (PlainToken × (PlainToken × PlainToken))) →
     part_said parts.params (build parts.params ts (o, (inl (inr y), c))) ≡ parts_said (rules parts.params) (o, (inl (inr y), c))
 unfolding one parameter_kinds
 params_are ts o c y = ap (λ l. plain.Punctuator marks.OpenBracket ∷ plain.Keyword (type_word (kind_type y.0.0.kind)) ∷ plain.Name (token_bytes y.0.1) ∷ (l ++ plain.Punctuator marks.CloseBracket ∷ [])) (parameters_said y.1)
 
-no_params : (ts : List PlainToken) (o c : PlainToken) → part_said parts.params (build parts.params ts (o, (inr tt, c))) ≡ parts_said (rules parts.params) (o, (inr tt, c))
+pub no_params : (ts : List PlainToken) (o c : PlainToken) → part_said parts.params (build parts.params ts (o, (inr tt, c))) ≡ parts_said (rules parts.params) (o, (inr tt, c))
 unfolding one
 no_params ts o c = refl
 
@@ -228,7 +228,7 @@ define_are ts x = by x.1.1.0
     by (inl m) = refl
     by (inr m) = refl
 
-typed_are : (ts : List PlainToken) (t n : PlainToken) (y : (List Parameter × Block) ⊎ ((Given ⊎ Unit {0}) × (List (PlainToken × Declarator) × PlainToken))) →
+pub typed_are : (ts : List PlainToken) (t n : PlainToken) (y : (List Parameter × Block) ⊎ ((Given ⊎ Unit {0}) × (List (PlainToken × Declarator) × PlainToken))) →
     part_said parts.item (build parts.item ts (inr (inl (t, (n, y))))) ≡ parts_said (rules parts.item) (inr (inl (t, (n, y))))
 unfolding one function_kinds variables_kinds
 typed_are ts t n (inl y) = spaced_kinds _
@@ -238,11 +238,11 @@ typed_are ts t n (inr y) =
     ∙ ap (λ (l : Row). plain.Keyword (type_word (kind_type t.kind)) ∷ plain.Name (token_bytes n) ∷ l)
     (append_assoc (either_said (part_said parts.given) (λ u. []) y.0) (all_said (λ p. plain.Punctuator marks.Comma ∷ declarator_kinds p.1) y.1.0) (plain.Punctuator marks.Semicolon ∷ []))
 
-void_are : (ts : List PlainToken) (v n : PlainToken) (ps : List Parameter) (b : Block) → part_said parts.item (build parts.item ts (inr (inr (inl v, (n, (ps, b)))))) ≡ parts_said (rules parts.item) (inr (inr (inl v, (n, (ps, b)))))
+pub void_are : (ts : List PlainToken) (v n : PlainToken) (ps : List Parameter) (b : Block) → part_said parts.item (build parts.item ts (inr (inr (inl v, (n, (ps, b)))))) ≡ parts_said (rules parts.item) (inr (inr (inl v, (n, (ps, b)))))
 unfolding one function_kinds
 void_are ts v n ps b = spaced_kinds _
 
-int_are : (ts : List PlainToken) (n : PlainToken) (ps : List Parameter) (b : Block) →
+pub int_are : (ts : List PlainToken) (n : PlainToken) (ps : List Parameter) (b : Block) →
     written_kinds (item_written (to_function ts (Some types.Int) n ps b)) ≡ plain.Keyword words.Int ∷ plain.Name (token_bytes n) ∷ (part_said parts.params ps ++ part_said parts.block b)
 unfolding one function_kinds
 int_are ts n ps b = spaced_kinds _

@@ -1,10 +1,11 @@
 //! The tokens of definitions and functions, in their order, and the text of a whole source.
 
-ghost use Rattle.std.specs.Prelude.{◌≡◌, ◌++◌, [], map, OnOk, IfOk};
+ghost use Rattle.std.specs.Prelude.{◌≡◌, ◌++◌, ℕ, List, [], map, OnOk, IfOk};
 ghost use Rattle.cl_ast.specs.Plain as kinds;
 ghost use Rattle.cl_print.specs.Spelling.{spelling, text_of, after, after_all};
 ghost use Rattle.cl_print.specs.Expressions.{listed};
 ghost use Rattle.cl_print.specs.Writing.{result_word, parameter_kinds, function_kinds, minus, define_written, item_written, written, canonical};
+ghost use Rattle.cl_print.specs.Back.{ReadsAs, ReadsBack};
 
 use crate::statement::type_word;
 use crate::writer::Writer;
@@ -107,10 +108,14 @@ impl Writer {
 /// `{`, `}`, `;` and a define line with LF, and with brackets round an operand exactly where the grammar
 /// needs them.
 ///
+/// Of the tree of a source the text reads back: tokens split it, of whatever length it is, and these derive the
+/// same tree but for places, no deeper than those of the source did. Printing that tree gives the text again.
+///
 /// `NoMemory` comes where a growth of the text was refused, and for nothing else.
 #[tactic(auto, unfolding(crate::specs::Spelling::after_all))]
 pub fn print(alloc: Global, unit: &Unit) -> Result<Items<u8>, NoMemory>
     ensures text { IfOk result (λ text. text.items ≡ canonical unit.now.items) }
+    ensures reads_back { IfOk result (λ text. (n : ℕ) (source : List ℕ) → ReadsAs n source unit.now.items → ReadsBack n text.items unit.now.items) }
 {
     let mut writer = Writer::new(alloc);
     writer.items(unit.items.as_slice())?;

@@ -2,11 +2,14 @@
 use Rattle.std.proofs.Common.{◌≡◌, ℕ, List, Option, None, refl, sym, subst}
 use Rattle.cl_value.specs.Plain.{PlainRun}
 use Rattle.cl_ast.specs.declared.statement.Item.{Item}
+use Rattle.cl_print.specs.Back.{ReadsAs}
+use Rattle.cl_print.proofs.Back.{text_reads_back}
 use Rattle.cl_model.specs.declared.refusal.Refusal.{Refusal}
 use Rattle.cl_model.specs.declared.refusal.RefusalKind.TheVariants as kinds
 use Rattle.cl_model.specs.Commands.{Command, Seq, Print}
 use Rattle.cl_model.specs.Places.{IsRefusedAt}
 use Rattle.cl_model.specs.Small.{PlainItem, Accepted}
+use Rattle.clinda.specs.Front.{IsReadAs}
 use Rattle.clinda.specs.Making.{HasNone, HasProgram, IsRefused, IsSaid, run_saying, text_saying, refusal_saying, Found, Made, Refused}
 use Rattle.clinda.specs.Making as making
 use Rattle.clinda.specs.Ran.{Ran, Reported, Unreported}
@@ -28,9 +31,15 @@ pub run_found : (seed : ℕ) (source : List ℕ) (items : List PlainItem) (repor
 run_found seed source items report found has (Reported run told is said) = Made items has (run_saying items run) (record { run = run; told = told; is = is; said = refl }) said
 run_found seed source items report found has (Unreported none nothing) = making.Unfound none nothing
 
+-- what is read as a tree is so in the terms of the printer
+reads_as : (source : List ℕ) (items : List Item) → IsReadAs source items → ReadsAs 64 source items
+reads_as source items is =
+    let d = is.tree.derived in
+    record { read = is.tokens; splits = is.splits; derivation = d.derivation; member = d.member; spelled = d.spelled; nesting = d.nesting; tree = d.tree }
+
 pub text_found : (source : List ℕ) (items : List Item) (report : Option PlainRun) (found saying : Option Saying) → HasProgram Print source items → report ≡ None → found ≡ saying → IsSaid saying (text_saying items) → Found Print source report found
 text_found source items report found saying has none same said =
-    Made items has (text_saying items) (record { no_run = none; said = refl }) (subst (λ (o : Option Saying). IsSaid o (text_saying items)) (sym same) said)
+    Made items has (text_saying items) (record { no_run = none; said = refl; back = text_reads_back 64 source items (reads_as source items has.is) }) (subst (λ (o : Option Saying). IsSaid o (text_saying items)) (sym same) said)
 
 pub refusal_found : (command : Command) (source : List ℕ) (refusal : Refusal) (report : Option PlainRun) (found : Option Saying) → IsRefused command source refusal → report ≡ None → IsSaid found (refusal_saying source refusal) → Found command source report found
 refusal_found command source refusal report found is none said = Refused refusal is none said

@@ -6,6 +6,7 @@ use Rattle.cl_value.specs.Tickets.{by_ticket}
 use Rattle.cl_value.specs.Text.{run_text}
 use Rattle.cl_ast.specs.declared.statement.Item.{Item}
 use Rattle.cl_print.specs.Writing.{canonical}
+use Rattle.cl_print.specs.Back.{ReadsBack}
 use Rattle.cl_model.specs.declared.refusal.Refusal.{Refusal}
 use Rattle.cl_model.specs.declared.refusal.RefusalKind.TheVariants as kinds
 use Rattle.cl_model.specs.Commands.{Command, Seq, Print}
@@ -45,10 +46,11 @@ pub record Runs (items : List PlainItem) (report : Option PlainRun) (saying : Sa
 abbrev pub text_saying : List Item → Saying
 text_saying items = record { text = canonical items; status = 0 }
 
--- nothing was run, and this is to be said of the tree
+-- nothing was run, and this is to be said of the tree; its text reads back as the tree
 pub record Shows (items : List Item) (report : Option PlainRun) (saying : Saying) : Type 0 where
   pub no_run : report ≡ None
   pub said : saying ≡ text_saying items
+  pub back : ReadsBack 64 saying.text items
 
 -- what is to be said of a refusal
 abbrev pub refusal_saying : List ℕ → Refusal → Saying
