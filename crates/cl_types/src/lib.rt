@@ -18,11 +18,14 @@ mod public;
 mod scopes;
 mod statement;
 
-pub use context::{Access, Context, Purpose, Reach};
-pub use declared::{Declared, FunctionType, Number};
-pub use directive::Directive;
+use context::{Access, Context, Purpose, Reach};
+use declared::{Declared, FunctionType, Number};
+use directive::Directive;
 pub use expression::MAX_FIELDS;
 pub use fault::{Fault, TypeKind};
-pub use journal::{Journal, MAX_FUNCTIONS, MAX_SITES};
+use journal::Journal;
+pub use journal::{MAX_FUNCTIONS, MAX_SITES};
 pub use public::{TypeEnd, Typed, check};
-pub use scopes::Scopes;
+
+#[cfg(test)]
+mod tests;
