@@ -4,7 +4,7 @@ use mathlib.Core.Option.{some, some-injective}
 use Rattle.atomic_table.specs.Table.{State, Final, Seen}
 use lib.ListN.{get_elem?}
 use Rattle.cl_ticket.specs.Weights.{weigh, upto, under, Each}
-use Rattle.cl_ticket.specs.Rule.{spent, by_birth, by_root, if_eval, name_of, in_sets, of_persons, evals, births, numbers, known, Fits, FitsHistory, FitsHalt, halters, Ruled, Holds}
+use Rattle.cl_ticket.specs.Rule.{is, marks, spent, by_birth, by_root, if_eval, name_of, in_sets, of_persons, evals, births, numbers, known, Fits, FitsHistory, FitsHalt, halters, Ruled, Holds}
 use Rattle.cl_ticket.specs.Steps.{end_view, root_sets, sets_known, person_in, others_in}
 use Rattle.cl_value.specs.Plain.{PlainAct, PlainHistory}
 use Rattle.cl_value.specs.Acts.{is_eval}
@@ -108,28 +108,37 @@ module _ (n : ℕ) (views : List View) (id k : ℕ) (main : Person) (gathered : 
 persons-as : (persons : List Person) (k : ℕ) → persons ≡ person_in persons ∷ others_in persons → (person_in persons).origin ≡ Root k → persons ≡ root_person k (person_in persons) ∷ others_in persons
 persons-as persons k is root = is ∙ ap (λ (o : Origin). record { origin = o; acts = (person_in persons).acts; full = (person_in persons).full; failed = (person_in persons).failed; saw = (person_in persons).saw } ∷ others_in persons) root
 
+-- where there is a mark of a full set, there is a set of its number
+abbrev pub Lists : List Person → List PlainHistory → Type 0
+Lists persons sets = (x : ℕ) → 1 ≤ marks x (end_view persons sets) → 1 ≤ numbers (is x) (end_view persons sets)
+
 -- what is known once the table is closed
 pub closed : (ws : List ℕ) (xs : List (Unit {0})) (id k next halt : ℕ) (v : View) (persons : List Person) (sets : List PlainHistory) → Final (Seen (λ (s : State (Unit {0}) View). Holds s.words s.views) id v) ws xs → get_elem? ws 0 ≡ some next → get_elem? ws 1 ≡ some halt → v ≡ end_view persons sets
     → persons ≡ person_in persons ∷ others_in persons → (person_in persons).origin ≡ Root k → length sets ≡ k → length (others_in persons) ≡ weigh (λ (s : PlainHistory). weigh (λ (a : PlainAct). if_eval (is_eval a.what) 1) s.acts) sets
-    → ((0 < next) × Ruled (next - 1) (end_view persons sets ∷ [])) × (FitsHalt halt (end_view persons sets) × (0 < halt → 1 ≤ halters halt (end_view persons sets)))
-closed ws xs id k next halt v persons sets final found found' is some_person root all_sets all_gathered =
+    → ((0 < next) × Ruled (next - 1) (end_view persons sets ∷ [])) × (FitsHalt halt (end_view persons sets) × (0 < halt → 1 ≤ halters halt (end_view persons sets))) × Lists persons sets
+closed ws xs id k next halt v persons sets final found found' same_view some_person root all_sets all_gathered =
     let st = final.0 in
     let h = final.1.0 in
     let same = persons-as persons k some_person root in
     let word : some (suc h.n) ≡ some next = ap (λ (l : List ℕ). get_elem? l 0) (sym h.at ∙ final.2) ∙ found in
     let number : suc h.n ≡ next = some-injective (suc h.n) next word in
-    let at : get_elem? st.views id ≡ some (end_view (root_person k (person_in persons) ∷ others_in persons) sets) = final.1.1 ∙ (ap some is ∙ ap (λ (ps : List Person). some (end_view ps sets)) same) in
+    let at : get_elem? st.views id ≡ some (end_view (root_person k (person_in persons) ∷ others_in persons) sets) = final.1.1 ∙ (ap some same_view ∙ ap (λ (ps : List Person). some (end_view ps sets)) same) in
     let r = closes h.n st.views id k (person_in persons) (others_in persons) sets h.ruled at all_sets all_gathered in
     let n : h.n ≡ next - 1 = omega arith in
     let word' : some h.m ≡ some halt = ap (λ (l : List ℕ). get_elem? l 1) (sym h.at ∙ final.2) ∙ found' in
     let stands : h.m ≡ halt = some-injective h.m halt word' in
-    let at' : get_elem? st.views id ≡ some (end_view persons sets) = final.1.1 ∙ ap some is in
+    let at' : get_elem? st.views id ≡ some (end_view persons sets) = final.1.1 ∙ ap some same_view in
     let halted : FitsHalt halt (end_view persons sets) = subst (λ (m : ℕ). FitsHalt m (end_view persons sets)) stands (each-at (FitsHalt h.m) st.views id (end_view persons sets) at' h.halted) in
     let alone = alone-weighs h.n st.views id k (person_in persons) (others_in persons) sets h.ruled at all_sets all_gathered (halters h.m) refl in
     let back : halters h.m (end_view (root_person k (person_in persons) ∷ others_in persons) sets) ≡ halters h.m (end_view persons sets) = ap (λ (ps : List Person). halters h.m (end_view ps sets)) (sym same) in
     let halting : 0 < h.m → 1 ≤ halters h.m (end_view persons sets) = λ some_name. let t = h.halting some_name in omega arith in (
       (omega arith, subst (λ (m : ℕ). Ruled m (end_view persons sets ∷ [])) n (subst (λ (ps : List Person). Ruled h.n (end_view ps sets ∷ [])) (sym same) r)),
       (halted, subst (λ (m : ℕ). 0 < m → 1 ≤ halters m (end_view persons sets)) stands halting),
+      (λ x some_mark.
+          let a = weigh-at (marks x) st.views id (end_view persons sets) at' in
+          let l = h.listed x (omega arith) in
+          let c = alone-weighs h.n st.views id k (person_in persons) (others_in persons) sets h.ruled at all_sets all_gathered (numbers (is x)) refl in
+          omega arith),
     )
 
 abbrev zero_weight : ℕ → ℕ
@@ -159,13 +168,13 @@ root-of n views id m v p rest r at is (Born b) o none told =
 -- the same for tokens of a run with m sets
 pub closed_as : (ws : List ℕ) (xs : List (Unit {0})) (id m next halt : ℕ) (v : View) (persons : List Person) (sets : List PlainHistory) → Final (Seen (λ (s : State (Unit {0}) View). Holds s.words s.views) id v) ws xs → get_elem? ws 0 ≡ some next → get_elem? ws 1 ≡ some halt → v ≡ end_view persons sets
     → persons ≡ person_in persons ∷ others_in persons → name_of (person_in persons).origin ≡ 0 → root_sets persons m ≡ m → length sets ≡ m → length (others_in persons) ≡ weigh (λ (s : PlainHistory). weigh (λ (a : PlainAct). if_eval (is_eval a.what) 1) s.acts) sets
-    → ((0 < next) × Ruled (next - 1) (end_view persons sets ∷ [])) × (FitsHalt halt (end_view persons sets) × (0 < halt → 1 ≤ halters halt (end_view persons sets))) × ((person_in persons).origin ≡ Root m)
+    → ((0 < next) × Ruled (next - 1) (end_view persons sets ∷ [])) × (FitsHalt halt (end_view persons sets) × (0 < halt → 1 ≤ halters halt (end_view persons sets))) × Lists persons sets × ((person_in persons).origin ≡ Root m)
 closed_as ws xs id m next halt v persons sets final found found' is some_person none told all_sets all_gathered =
     let h = final.1.0 in
     let k : sets_known (person_in persons).origin m ≡ m = subst (λ (ps : List Person). root_sets ps m ≡ m) some_person told in
     let root = root-of h.n final.0.views id m v (person_in persons) (others_in persons) h.ruled final.1.1 (ap (λ (w : View). w.persons) is ∙ some_person) (person_in persons).origin refl none k in
     let all = closed ws xs id m next halt v persons sets final found found' is some_person root all_sets all_gathered in
-    (all.0, all.1, root)
+    (all.0, all.1, all.2, root)
 
 -- what is known of full sets at the end
 pub closed-marks : (ws : List ℕ) (xs : List (Unit {0})) (id : ℕ) (v : View) (persons : List Person) (sets : List PlainHistory) → Final (Seen (λ (s : State (Unit {0}) View). Holds s.words s.views) id v) ws xs → v ≡ end_view persons sets

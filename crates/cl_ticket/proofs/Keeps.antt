@@ -1,9 +1,9 @@
 -- Each kind of step keeps the rule.
-use Rattle.std.proofs.Common.{◌≡◌, ℕ, suc, ◌+◌, ◌<◌, ◌≤◌, List, [], ◌∷◌, ◌++◌, set, refl, sym, arith, length-append, ◌∙◌, eqb, true}
+use Rattle.std.proofs.Common.{◌≡◌, ℕ, zero, suc, ◌+◌, ◌<◌, ◌≤◌, List, [], ◌∷◌, ◌++◌, set, refl, sym, arith, length-append, ◌∙◌, eqb}
 use mathlib.Core.Option.{some}
 use lib.ListN.{get_elem?}
 use Rattle.cl_ticket.specs.Weights.{weigh, under, Each}
-use Rattle.cl_ticket.specs.Rule.{spent, both, in_sets, of_persons, evals, births, numbers, known, opened, name_of, depth_of, by_birth, by_root, if_eval, Fits, FitsSet, FitsPerson, FitsHistory, FitsHalt, FitsUnborn, of_ticket, halters, Ruled, Holds}
+use Rattle.cl_ticket.specs.Rule.{spent, both, in_sets, of_persons, evals, births, numbers, known, opened, is, marks, name_of, depth_of, by_birth, by_root, if_eval, Agrees, Fits, FitsSet, FitsPerson, FitsHistory, FitsHalt, FitsUnborn, of_ticket, halters, Ruled, Holds}
 use Rattle.cl_value.specs.Plain.{PlainAct, PlainHistory}
 use Rattle.cl_value.specs.Acts.{is_eval}
 use Rattle.cl_ticket.specs.Persons.{Birth, Person, Mark}
@@ -20,6 +20,9 @@ pub record Balances (old new : List View) : Type 0 where
   pub numbered : (h : ℕ → ℕ) → weigh (numbers h) new + weigh (known (under h)) old ≡ weigh (numbers h) old + weigh (known (under h)) new
   pub root : weigh (known (λ k. 1)) new ≡ weigh (known (λ k. 1)) old
   pub quiet : weigh opened new ≤ weigh opened old
+  -- no set is lost, and a new mark has the number of a set that was there
+  pub grown : (h : ℕ → ℕ) → weigh (numbers h) old ≤ weigh (numbers h) new
+  pub marked : (x : ℕ) → weigh (marks x) new ≤ weigh (marks x) old + weigh (numbers (is x)) old
 
 -- old views were replaced by new ones among others that stay
 abbrev pub Replaces : List View → List View → List View → List View → Type 0
@@ -52,6 +55,11 @@ replaces-one views id v w e f = let s = weigh-set f views id v w e in omega arit
 pub weighs-both : (f : View → ℕ) (v w : View) → f (both v w) ≡ f v + f w → f spent ≡ 0 → weigh f (both v w ∷ spent ∷ []) ≡ weigh f (v ∷ w ∷ [])
 weighs-both f v w e z = omega arith
 
+-- where no set is lost, and a new mark is of a set that was there, each mark is of a set
+pub listed-after : (a b a' b' c : ℕ) → (1 ≤ a → 1 ≤ b) → a' ≤ a + c → c ≤ b → b ≤ b' → 1 ≤ a' → 1 ≤ b'
+listed-after zero b a' b' c f le le' le'' some_mark = omega arith
+listed-after (suc a) b a' b' c f le le' le'' some_mark = let x = f (omega arith) in omega arith
+
 in_sets-both : (h : PlainAct → ℕ) (v w : View) → in_sets h (both v w) ≡ in_sets h v + in_sets h w
 in_sets-both h v w = weigh-append (λ s. weigh h s.acts) v.sets w.sets
 
@@ -69,6 +77,9 @@ numbers-both h v w = weigh-append (λ (s : PlainHistory). h s.set) v.sets w.sets
 
 known-both : (f : ℕ → ℕ) (v w : View) → known f (both v w) ≡ known f v + known f w
 known-both f v w = let a = weigh-append f v.opening w.opening in let b = weigh-append (λ (p : Person). by_root f p.origin) v.persons w.persons in omega arith
+
+marks-both : (x : ℕ) (v w : View) → marks x (both v w) ≡ marks x v + marks x w
+marks-both x v w = weigh-append (λ (p : Person). weigh (λ (m : Mark). is x m.set) p.full) v.persons w.persons
 
 opened-both : (v w : View) → opened (both v w) ≡ opened v + opened w
 opened-both v w = length-append v.opening w.opening
@@ -89,13 +100,15 @@ balances-both v w = record {
   numbered = λ h. let a = weighs-both (numbers h) v w (numbers-both h v w) refl in let b = weighs-both (known (under h)) v w (known-both (under h) v w) refl in omega arith;
   root = weighs-both (known (λ k. 1)) v w (known-both (λ k. 1) v w) refl;
   quiet = let a = weighs-both opened v w (opened-both v w) refl in omega arith;
+  grown = λ h. let a = weighs-both (numbers h) v w (numbers-both h v w) refl in omega arith;
+  marked = λ x. let a = weighs-both (marks x) v w (marks-both x v w) refl in omega arith;
 }
 
 marked-both : (history : ℕ → List PlainAct) (v w : View) → FitsHistory history v → FitsHistory history w → FitsHistory history (both v w)
 marked-both history v w a b = (each-append (λ (s : PlainHistory). s.acts ≡ history s.set) v.sets w.sets a.0 b.0, each-append (λ (p : Person). Each (λ (m : Mark). IsPrefix m.acts (history m.set)) p.full) v.persons w.persons a.1 b.1)
 
 halt-both : (m : ℕ) (v w : View) → FitsHalt m v → FitsHalt m w → FitsHalt m (both v w)
-halt-both m v w a b = each-append (λ (p : Person). (p.failed ≡ true → 0 < m) × Each (λ (q : ℕ). m ≡ suc q) p.saw) v.persons w.persons a b
+halt-both m v w a b = each-append (Agrees m) v.persons w.persons a b
 
 halters-both : (m : ℕ) (v w : View) → halters m (both v w) ≡ halters m v + halters m w
 halters-both m v w = weigh-append (λ (p : Person). if_eval p.failed (if_eval (eqb m (suc (name_of p.origin))) 1)) v.persons w.persons
@@ -121,6 +134,12 @@ joins words views id other v w h e apart e' =
       ruled = keeps h.n views (set (set views id (both v w)) other spent) (v ∷ w ∷ []) (both v w ∷ spent ∷ []) (replaces-join views id other v w (both v w) spent e e') (balances-both v w) fits_s h.ruled;
       history = h.history;
       marked = marked;
+      listed = λ x.
+          let a = replaces-join views id other v w (both v w) spent e e' (marks x) in
+          let b = replaces-join views id other v w (both v w) spent e e' (numbers (is x)) in
+          let c = marks-both x v w in
+          let d = numbers-both (is x) v w in
+          listed-after (weigh (marks x) views) (weigh (numbers (is x)) views) (weigh (marks x) (set (set views id (both v w)) other spent)) (weigh (numbers (is x)) (set (set views id (both v w)) other spent)) 0 (h.listed x) (omega arith) (omega arith) (omega arith);
       m = h.m;
       halted = halted;
       halting = λ stands. let x = replaces-join views id other v w (both v w) spent e e' (halters h.m) in let y = halters-both h.m v w in let t = h.halting stands in omega arith;
@@ -129,9 +148,9 @@ joins words views id other v w h e apart e' =
 
 -- A seat whose view balances those of two may be cut into them
 pub cuts : (words : List ℕ) (views : List View) (id : ℕ) (v left right : View) → Holds words views → get_elem? views id ≡ some v → Balances (v ∷ []) (left ∷ right ∷ []) → (Fits v → Fits left × Fits right) → ((history : ℕ → List PlainAct) → (0 < opened v → (k : ℕ) → history k ≡ []) → FitsHistory history v → FitsHistory history left × FitsHistory history right) → ((m : ℕ) → (FitsHalt m v → FitsHalt m left × FitsHalt m right) × (halters m left + halters m right ≡ halters m v)) → Holds words (set views id left ++ right ∷ [])
-cuts words views id v left right h e b fits marks halts =
+cuts words views id v left right h e b fits knows_sets halts =
     let opening : 0 < opened v → (k : ℕ) → h.history k ≡ [] = λ some_opening. let w = weigh-at opened views id v e in let more : 0 < weigh opened views = omega arith in h.unwritten more in
-    let m = marks h.history opening (each-at (FitsHistory h.history) views id v e h.marked) in
+    let m = knows_sets h.history opening (each-at (FitsHistory h.history) views id v e h.marked) in
     let f = fits (each-at Fits views id v e h.ruled.fits) in
     record {
       n = h.n;
@@ -143,5 +162,12 @@ cuts words views id v left right h e b fits marks halts =
       halted = let x = (halts h.m).0 (each-at (FitsHalt h.m) views id v e h.halted) in each-append (FitsHalt h.m) (set views id left) (right ∷ []) (each-set (FitsHalt h.m) views id left h.halted x.0) (x.1, tt);
       halting = λ stands. let x = replaces-cut views id v left right e (halters h.m) in let y = (halts h.m).1 in let t = h.halting stands in omega arith;
       marked = each-append (FitsHistory h.history) (set views id left) (right ∷ []) (each-set (FitsHistory h.history) views id left h.marked m.0) (m.1, tt);
+      listed = λ x.
+          let c = replaces-cut views id v left right e (marks x) in
+          let d = replaces-cut views id v left right e (numbers (is x)) in
+          let g = b.grown (is x) in
+          let k = b.marked x in
+          let here = weigh-at (numbers (is x)) views id v e in
+          listed-after (weigh (marks x) views) (weigh (numbers (is x)) views) (weigh (marks x) (set views id left ++ right ∷ [])) (weigh (numbers (is x)) (set views id left ++ right ∷ [])) (numbers (is x) v) (h.listed x) (omega arith) here (omega arith);
       unwritten = λ some_opening. let x = replaces-cut views id v left right e opened in let q = b.quiet in let more : 0 < weigh opened views = omega arith in h.unwritten more;
     }

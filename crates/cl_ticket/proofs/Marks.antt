@@ -1,20 +1,19 @@
 -- What is known of full sets stays a beginning of the set's acts.
-use Rattle.std.proofs.Common.{◌≡◌, ◌≢◌, ℕ, eqb, eq-eqb, ne_eqb, zero, suc, ◌≤◌, List, [], ◌∷◌, ◌++◌, set, Bool, true, false, refl, sym, ap, subst, arith, ◌∙◌, append_assoc, append-nil}
+use Rattle.std.proofs.Common.{◌≡◌, ◌≢◌, ℕ, eqb, eq-eqb, ne_eqb, zero, suc, ◌+◌, ◌≤◌, List, [], ◌∷◌, ◌++◌, set, Bool, true, false, refl, sym, ap, subst, arith, ◌∙◌, append_assoc, append-nil}
 use mathlib.Core.Option.{some}
 use mathlib.Core.List.{IsPrefix}
 use mathlib.Core.Logic.{dite}
 use native.Mathlib.Decide.{ℕ_discrete}
 use lib.ListN.{get_elem?}
 use Rattle.cl_ticket.specs.Weights.{weigh, under, Each}
-use Rattle.cl_ticket.specs.Rule.{set_view, spent, by_birth, by_root, depth_of, if_eval, numbers, known, FitsPerson, FitsHistory, FitsHalt, name_of, process_view, Ruled, Holds}
-use Rattle.cl_ticket.specs.Steps.{with_mark, with_marks, set_in, drawn_view, left_leave, right_full}
+use Rattle.cl_ticket.specs.Rule.{set_view, spent, by_birth, by_root, depth_of, if_eval, is, marks, numbers, known, FitsPerson, FitsHistory, FitsHalt, name_of, process_view, Ruled, Holds}
+use Rattle.cl_ticket.specs.Steps.{IsSet, with_mark, with_marks, set_in, drawn_view, left_leave, right_full}
 use Rattle.cl_value.specs.Plain.{PlainAct, PlainHistory}
 use Rattle.cl_value.specs.Acts.{is_eval}
 use Rattle.cl_ticket.specs.Persons.{Birth, Mark, Origin, Root, Born, Person}
 use Rattle.cl_ticket.specs.declared.view.View.{View}
 use Rattle.cl_ticket.proofs.Sums.{weigh-set, weigh-less, weigh-none, each-at, each-set, each-map, each-both, set-twice}
 use Rattle.cl_ticket.proofs.Keeps.{Balances, cuts}
-use Rattle.cl_ticket.specs.Points.{is}
 use Rattle.cl_ticket.proofs.Points.{is-here, is-else}
 
 abbrev pub chosen : Bool → List PlainAct → List PlainAct → List PlainAct
@@ -95,8 +94,13 @@ marks-weigh : (f : Person → ℕ) (s : PlainHistory) → ((p : Person) → f (w
 marks-weigh f s e [] = refl
 marks-weigh f s e (p ∷ more) = let q = e p in omega arith
 
-full-balances : (v : View) → Balances (v ∷ []) (left_leave v ∷ right_full v ∷ [])
-full-balances v = let s = set_in v.sets in record {
+-- the mark is of the set of the view
+mark-weighs : (x : ℕ) (s : PlainHistory) (l : List Person) → marks x (process_view (with_marks l s)) ≤ marks x (process_view l) + is x s.set
+mark-weighs x s [] = omega arith
+mark-weighs x s (p ∷ more) = omega arith
+
+full-balances : (v : View) → IsSet v → Balances (v ∷ []) (left_leave v ∷ right_full v ∷ [])
+full-balances v whole_set = let s = set_in v.sets in record {
   sets = λ h. omega arith;
   persons = λ h. let a = marks-weigh (λ (p : Person). weigh h p.acts) s (λ p. refl) v.persons in omega arith;
   born = λ h.
@@ -106,6 +110,8 @@ full-balances v = let s = set_in v.sets in record {
   numbered = λ h. let a = marks-weigh (λ (p : Person). by_root (under h) p.origin) s (λ p. refl) v.persons in omega arith;
   root = let a = marks-weigh (λ (p : Person). by_root (λ k. 1) p.origin) s (λ p. refl) v.persons in omega arith;
   quiet = omega arith;
+  grown = λ h. omega arith;
+  marked = λ x. let a = mark-weighs x s v.persons in let b : numbers (is x) v ≡ is x s.set + 0 = ap (numbers (is x)) whole_set in omega arith;
 }
 
 full-fits : (s : PlainHistory) (l : List Person) → Each FitsPerson l → Each FitsPerson (with_marks l s)
@@ -125,7 +131,7 @@ full-halt m s [] all = tt
 full-halt m s (p ∷ more) all = all
 
 -- who stands in a full set leaves it
-pub leaves-full : (words : List ℕ) (views : List View) (id : ℕ) (v : View) → Holds words views → get_elem? views id ≡ some v → Holds words (set views id (left_leave v) ++ right_full v ∷ [])
-leaves-full words views id v h e = cuts words views id v (left_leave v) (right_full v) h e (full-balances v) (λ f. ((f.0, tt, f.2, f.3), (tt, full-fits (set_in v.sets) v.persons f.1, tt, tt)))
+pub leaves-full : (words : List ℕ) (views : List View) (id : ℕ) (v : View) → IsSet v → Holds words views → get_elem? views id ≡ some v → Holds words (set views id (left_leave v) ++ right_full v ∷ [])
+leaves-full words views id v whole_set h e = cuts words views id v (left_leave v) (right_full v) h e (full-balances v whole_set) (λ f. ((f.0, tt, f.2, f.3), (tt, full-fits (set_in v.sets) v.persons f.1, tt, tt)))
     (λ history none m. ((m.0, tt), (tt, full-marks history (set_in v.sets) v.persons (begins-so history v.sets m.0) m.1)))
     (λ m. ((λ x. (tt, full-halt m (set_in v.sets) v.persons x)), let a = marks-weigh (λ (p : Person). if_eval p.failed (if_eval (eqb m (suc (name_of p.origin))) 1)) (set_in v.sets) (λ p. refl) v.persons in omega arith))

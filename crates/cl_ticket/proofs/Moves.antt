@@ -1,13 +1,14 @@
 -- What the table's calls ask, at views that are known.
-use Rattle.std.proofs.Common.{◌≡◌, ℕ, suc, ◌+◌, ◌%◌, ◌^◌, ◌<◌, ◌≤◌, List, [], ◌∷◌, length, refl, sym, ap, subst, arith, ◌∙◌}
+use Rattle.std.proofs.Common.{◌≡◌, ℕ, suc, ◌+◌, ◌%◌, ◌^◌, ◌<◌, ◌≤◌, List, [], ◌∷◌, length, set, refl, sym, ap, subst, arith, ◌∙◌}
 use Rattle.std.specs.Prelude.{slice_index, slice_set}
 use Rattle.atomic_table.specs.Table.{State, Me, keeps, Allows, Splits, Joins}
-use Rattle.cl_ticket.specs.Rule.{opening_view, set_view, spent, both, opened, FitsHalt, halters, Holds}
-use Rattle.cl_ticket.specs.Steps.{set_in, person_in, others_in, act_of, drawn_view, Drawn, left_opening, right_opening, left_last, left_leave, right_leave, right_full, left_born, right_born}
+use Rattle.cl_ticket.specs.Weights.{weigh}
+use Rattle.cl_ticket.specs.Rule.{opening_view, set_view, spent, both, opened, is, marks, numbers, FitsHalt, halters, Holds}
+use Rattle.cl_ticket.specs.Steps.{IsSet, set_in, person_in, others_in, act_of, drawn_view, Drawn, left_opening, right_opening, left_last, left_leave, right_leave, right_full, left_born, right_born}
 use Rattle.cl_value.specs.Plain.{PlainWhat, PlainHistory}
 use Rattle.cl_ticket.specs.Persons.{Birth, Person}
 use Rattle.cl_ticket.specs.declared.view.View.{View}
-use Rattle.cl_ticket.proofs.Keeps.{joins}
+use Rattle.cl_ticket.proofs.Keeps.{joins, listed-after}
 use Rattle.cl_ticket.proofs.Cuts.{opens, opens-last, leaves, bears}
 use Rattle.cl_ticket.proofs.Draws.{draws-ruled, sets-within, persons-within, name-within, few-acts, no-opening}
 use Rattle.cl_ticket.proofs.Marks.{draws-marked, written, leaves-full}
@@ -28,8 +29,8 @@ opens_last_as id k v is lt = subst (λ (x : View). Splits Kept id x (left_last x
 pub leaves_as : (id : ℕ) (v : View) → Splits Kept id v (left_leave v) (right_leave v)
 leaves_as id v s h e = leaves s.words s.views id v h e
 
-pub leaves_full_as : (id : ℕ) (v : View) → Splits Kept id v (left_leave v) (right_full v)
-leaves_full_as id v s h e = leaves-full s.words s.views id v h e
+pub leaves_full_as : (id : ℕ) (v : View) → IsSet v → Splits Kept id v (left_leave v) (right_full v)
+leaves_full_as id v whole_set s h e = leaves-full s.words s.views id v whole_set h e
 
 pub bears_as : (id : ℕ) (v : View) → Splits Kept id v (left_born v) (right_born v)
 bears_as id v s h e = bears s.words s.views id v h e
@@ -59,6 +60,10 @@ draws slots id site what s p rest u room st h homes at fits =
         ruled = draws-ruled n s p rest u site what st.views id room h.ruled at;
         history = written h.history s.set (act_of site what p (suc n));
         marked = draws-marked n st.views id s p rest u (act_of site what p (suc n)) h.history h.ruled at h.marked;
+        listed = λ x.
+            let c = weigh-set (marks x) st.views id v w at in
+            let d = weigh-set (numbers (is x)) st.views id v w at in
+            listed-after (weigh (marks x) st.views) (weigh (numbers (is x)) st.views) (weigh (marks x) (set st.views id w)) (weigh (numbers (is x)) (set st.views id w)) 0 (h.listed x) (omega arith) (omega arith) (omega arith);
         m = h.m;
         halted = each-set (FitsHalt h.m) st.views id w h.halted (each-at (FitsHalt h.m) st.views id v at h.halted);
         halting = λ stands. let c = weigh-set (halters h.m) st.views id v w at in let t = h.halting stands in omega arith;

@@ -6,9 +6,8 @@ use mathlib.Core.Logic.{dite}
 use native.Mathlib.Decide.{ℕ_discrete}
 use lib.ListN.{get_elem?}
 use Rattle.cl_ticket.specs.Weights.{weigh, under, upto, Each}
-use Rattle.cl_ticket.specs.Rule.{name_of, by_birth, by_root, if_eval, in_sets, of_persons, births, known, Rises, Fits, FitsSet, FitsPerson, Ruled}
+use Rattle.cl_ticket.specs.Rule.{is, name_of, by_birth, by_root, if_eval, in_sets, of_persons, births, known, Rises, Fits, FitsSet, FitsPerson, Ruled}
 use Rattle.cl_value.specs.Tickets.{placed, in_order, acts_in}
-use Rattle.cl_ticket.specs.Points.{is}
 use Rattle.cl_value.specs.Plain.{PlainAct, PlainHistory}
 use Rattle.cl_value.specs.Acts.{is_eval, acts_of}
 use Rattle.cl_ticket.specs.Persons.{Birth, Origin, Root, Born, Person}

@@ -12,11 +12,11 @@ use Rattle.cl_value.specs.Tickets.{acts_in, by_ticket, NumberedFrom}
 use Rattle.cl_ticket.specs.Weights.{weigh, upto, under, Each}
 use Rattle.cl_ticket.specs.Persons.{Birth, Mark, Origin, Root, Born, Person}
 use Rattle.cl_ticket.specs.Codes.{birth_coded}
-use Rattle.cl_ticket.specs.Rule.{if_eval, name_of, depth_of, by_birth, by_root, in_sets, Rises, FitsPerson, FitsHistory, halters, Ruled}
+use Rattle.cl_ticket.specs.Rule.{if_eval, is, marks, numbers, name_of, depth_of, by_birth, by_root, in_sets, Rises, FitsPerson, FitsHistory, halters, Ruled}
 use Rattle.cl_ticket.specs.Steps.{birth, end_view, tickets_of}
 use Rattle.cl_ticket.specs.Tokens.{Place, Process, everyone, with_gathered}
 use Rattle.cl_ticket.specs.Starts.{start_of}
-use Rattle.cl_ticket.specs.Points.{is, times, names_of, Differ, SameNumbers, AreBelow, OwnActs, HaveOwners, IsMadeBy, FullMarks, IsHalter, DrawnOnce}
+use Rattle.cl_ticket.specs.Points.{times, names_of, Differ, SameNumbers, AreBelow, OwnActs, HaveOwners, IsMadeBy, HasSet, FullMarks, IsHalter, DrawnOnce}
 use Rattle.cl_ticket.proofs.Apart.{match_weight, match-self, match-is}
 use Rattle.cl_ticket.proofs.Sums.{weigh-append, weigh-at, weigh-none, each-at, each-map}
 use Rattle.cl_ticket.proofs.Rising.{above-none}
@@ -204,11 +204,24 @@ module _ (n m : ℕ) (main : Person) (gathered : List Person) (sets : List Plain
   told-starts = each-by (IsMadeBy (main ∷ gathered)) gathered (λ i p at. by-origin i p at p.origin refl (each-at (λ (q : Person). by_root (λ k. 1) q.origin ≡ 0) gathered i p at no-root))
 
 -- what is known of full sets
-pub told-full : (history : ℕ → List PlainAct) (people : List Person) (sets : List PlainHistory) → FitsHistory history (end_view people sets) → FullMarks sets people
-told-full history people sets fits =
-    each-map (λ (p : Person). Each (λ (m : Mark). IsPrefix m.acts (history m.set)) p.full) (λ (p : Person). Each (λ (m : Mark). Each (λ (s : PlainHistory). s.set ≡ m.set → IsPrefix m.acts s.acts) sets) p.full) people
-    (λ p all. each-map (λ (m : Mark). IsPrefix m.acts (history m.set)) (λ (m : Mark). Each (λ (s : PlainHistory). s.set ≡ m.set → IsPrefix m.acts s.acts) sets) p.full
-    (λ m pre. each-map (λ (s : PlainHistory). s.acts ≡ history s.set) (λ (s : PlainHistory). s.set ≡ m.set → IsPrefix m.acts s.acts) sets (λ s e same. subst (IsPrefix m.acts) (ap history (sym same) ∙ sym e) pre) fits.0) all) fits.1
+pub told-full : (history : ℕ → List PlainAct) (people : List Person) (sets : List PlainHistory) → FitsHistory history (end_view people sets) → ((x : ℕ) → 1 ≤ marks x (end_view people sets) → 1 ≤ numbers (is x) (end_view people sets)) → FullMarks sets people
+told-full history people sets fits listed =
+    each-by (λ (p : Person). Each (λ (m : Mark). HasSet sets m.set × Each (λ (s : PlainHistory). s.set ≡ m.set → IsPrefix m.acts s.acts) sets) p.full) people
+    (λ i p at. each-by (λ (m : Mark). HasSet sets m.set × Each (λ (s : PlainHistory). s.set ≡ m.set → IsPrefix m.acts s.acts) sets) p.full (λ j m at'. (has i p at j m at', begins p (each-at (λ (p : Person). Each (λ (m : Mark). IsPrefix m.acts (history m.set)) p.full) people i p at fits.1) j m at')))
+  where
+    begins : (p : Person) → Each (λ (m : Mark). IsPrefix m.acts (history m.set)) p.full → (j : ℕ) (m : Mark) → get_elem? p.full j ≡ some m → Each (λ (s : PlainHistory). s.set ≡ m.set → IsPrefix m.acts s.acts) sets
+    begins p all j m at =
+        let pre = each-at (λ (m : Mark). IsPrefix m.acts (history m.set)) p.full j m at all in
+        each-map (λ (s : PlainHistory). s.acts ≡ history s.set) (λ (s : PlainHistory). s.set ≡ m.set → IsPrefix m.acts s.acts) sets (λ s e same. subst (IsPrefix m.acts) (ap history (sym same) ∙ sym e) pre) fits.0
+
+    has : (i : ℕ) (p : Person) → get_elem? people i ≡ some p → (j : ℕ) (m : Mark) → get_elem? p.full j ≡ some m → HasSet sets m.set
+    has i p at j m at' =
+        let a = weigh-at (λ (p : Person). weigh (λ (n : Mark). is m.set n.set) p.full) people i p at in
+        let b = weigh-at (λ (n : Mark). is m.set n.set) p.full j m at' in
+        let c = is-here m.set m.set refl in
+        let d = listed m.set (omega arith) in
+        let q = some-weighs (λ (s : PlainHistory). is m.set s.set) sets d in
+        (q.1, at-contains sets q.0 q.1 q.2, is-is m.set q.1.set q.3)
 
 -- who failed first
 pub told-halter : (halt : ℕ) (people : List Person) (sets : List PlainHistory) → (0 < halt → 1 ≤ halters halt (end_view people sets)) → IsHalter halt people

@@ -1,7 +1,7 @@
 -- How the logic stores acts, processes and sets: each as a tree of numbers, from which it can be read back. (This project.)
-use Rattle.std.specs.Prelude.{◌≡◌, refl, ℕ, zero, suc, Bool, List, ◌⊎◌, ℤ}
+use Rattle.std.specs.Prelude.{◌≡◌, refl, ℕ, zero, suc, Bool, List, Option, ◌⊎◌, ℤ}
 use Rattle.std.proofs.Common.{inl, inr}
-use Rattle.std.specs.Coded.{Coded, code_by, coded×, coded⊎, coded_ℕ, coded_ℤ, coded_bool, coded_list}
+use Rattle.std.specs.Coded.{Coded, code_by, coded×, coded⊎, coded_ℕ, coded_ℤ, coded_bool, coded_list, coded_option}
 use Rattle.cl_value.specs.declared.value.Value.{Value}
 use Rattle.cl_value.specs.declared.value.Value.TheVariants as values
 use Rattle.cl_value.specs.declared.value.FieldType.{FieldType}
@@ -163,7 +163,7 @@ mark_coded = code_by (ℕ × List PlainAct) (coded× coded_ℕ (coded_list act_c
 
 abbrev pub person_coded : Coded Person
 person_coded =
-    code_by (Origin × (List PlainAct × (List Mark × (Bool × List ℕ)))) (coded× origin_coded (coded× (coded_list act_coded) (coded× (coded_list mark_coded) (coded× coded_bool (coded_list coded_ℕ)))))
+    code_by (Origin × (List PlainAct × (List Mark × (Bool × List (Option ℕ))))) (coded× origin_coded (coded× (coded_list act_coded) (coded× (coded_list mark_coded) (coded× coded_bool (coded_list (coded_option coded_ℕ))))))
     (λ (p : Person). (p.origin, (p.acts, (p.full, (p.failed, p.saw))))) (λ p. record { origin = p.0; acts = p.1.0; full = p.1.1.0; failed = p.1.1.1.0; saw = p.1.1.1.1 }) (λ _. refl)
 
 -- the four lists of a view

@@ -1,5 +1,5 @@
 -- What a seat of the table knows, as plain data: processes with their acts, and sets with theirs. (This project.)
-use Rattle.std.specs.Prelude.{ℕ, Bool, List}
+use Rattle.std.specs.Prelude.{ℕ, Bool, List, Option}
 use Rattle.cl_value.specs.Plain.{PlainAct}
 
 -- the eval that makes a process, and the depth of that process
@@ -17,10 +17,10 @@ pub record Mark : Type 0 where
   pub set : ℕ
   pub acts : List PlainAct
 
--- a process with its acts, the full sets that it met, whether it failed, and whom it saw as the first that failed
+-- a process with its acts, the full sets that it met, whether it failed, and whom it saw as the first that failed, or that nobody had failed, each time that it looked
 pub record Person : Type 0 where
   pub origin : Origin
   pub acts : List PlainAct
   pub full : List Mark
   pub failed : Bool
-  pub saw : List ℕ
+  pub saw : List (Option ℕ)

@@ -1,18 +1,14 @@
 -- What a closed table tells of all processes and all sets, in plain words. (This project.)
-use Rattle.std.specs.Prelude.{◌≡◌, ℕ, suc, ◌+◌, ◌<◌, ◌≤◌, eqb, nat_lt, if◌then◌else◌, true, List, map, Contains}
+use Rattle.std.specs.Prelude.{◌≡◌, ℕ, suc, ◌+◌, ◌<◌, ◌≤◌, nat_lt, if◌then◌else◌, true, List, map, Contains}
 use mathlib.Core.List.{IsPrefix}
 use Rattle.cl_value.specs.Plain.{PlainAct, PlainHistory, Lives}
 use Rattle.cl_value.specs.Acts.{is_eval, acts_of}
 use Rattle.cl_value.specs.Tickets.{by_ticket}
 use Rattle.cl_ticket.specs.Weights.{weigh, Each}
 use Rattle.cl_ticket.specs.Persons.{Birth, Mark, Born, Person}
-use Rattle.cl_ticket.specs.Rule.{if_eval, name_of, depth_of, Rises}
+use Rattle.cl_ticket.specs.Rule.{is, name_of, depth_of, Agrees, Rises}
 use Rattle.cl_ticket.specs.Steps.{tickets_of}
 use Rattle.cl_ticket.specs.Starts.{start_of, live_of}
-
--- 1 where the numbers are equal
-abbrev pub is : ℕ → ℕ → ℕ
-is x k = if_eval (eqb k x) 1
 
 -- how often a number stands in a list
 abbrev pub times : ℕ → List ℕ → ℕ
@@ -45,13 +41,17 @@ HaveOwners sets people = Each (λ (a : PlainAct). 1 ≤ times a.proc (names_of p
 abbrev pub IsMadeBy : List Person → Person → Type 0
 IsMadeBy people p = (b : Birth) × (q : Person) × (p.origin ≡ Born b) × (start_of p.origin ≡ Lives b.act.site (live_of b.act.what) b.depth) × Contains people q × Contains q.acts b.act × (is_eval b.act.what ≡ true) × (b.depth ≡ suc (depth_of q.origin))
 
--- where a person is marked as one that met a full set, the acts of the mark are the first acts of that set
-abbrev pub FullMarks : List PlainHistory → List Person → Type 0
-FullMarks sets people = Each (λ (p : Person). Each (λ (m : Mark). Each (λ (s : PlainHistory). s.set ≡ m.set → IsPrefix m.acts s.acts) sets) p.full) people
+-- a set of this number is among these
+abbrev pub HasSet : List PlainHistory → ℕ → Type 0
+HasSet sets number = (s : PlainHistory) × Contains sets s × (s.set ≡ number)
 
--- a failed person leaves a name in word 1, and what a person saw there is that name
+-- where a person is marked as one that met a full set, that set is among these, and the acts of the mark are its first acts
+abbrev pub FullMarks : List PlainHistory → List Person → Type 0
+FullMarks sets people = Each (λ (p : Person). Each (λ (m : Mark). HasSet sets m.set × Each (λ (s : PlainHistory). s.set ≡ m.set → IsPrefix m.acts s.acts) sets) p.full) people
+
+-- a failed person leaves a name in word 1, and each name that a person saw there is that one
 abbrev pub HaltMarks : ℕ → List Person → Type 0
-HaltMarks halt people = Each (λ (p : Person). (p.failed ≡ true → 0 < halt) × Each (λ (q : ℕ). halt ≡ suc q) p.saw) people
+HaltMarks halt people = Each (Agrees halt) people
 
 -- the name in word 1 is that of a person that failed
 abbrev pub IsHalter : ℕ → List Person → Type 0

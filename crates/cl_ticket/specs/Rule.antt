@@ -1,5 +1,5 @@
 -- The ticket rule, over the words and all views.
-use Rattle.std.specs.Prelude.{◌≡◌, ℕ, suc, ◌+◌, ◌<◌, ◌≤◌, List, [], ◌∷◌, ◌++◌, length, Bool, true, false}
+use Rattle.std.specs.Prelude.{◌≡◌, ℕ, suc, ◌+◌, ◌<◌, ◌≤◌, List, [], ◌∷◌, ◌++◌, length, Bool, true, false, Option, IfSome}
 use Rattle.cl_ticket.specs.Weights.{weigh, upto, under, Each}
 use Rattle.cl_value.specs.Plain.{PlainAct, PlainHistory}
 use Rattle.cl_value.specs.Acts.{is_eval}
@@ -48,6 +48,10 @@ abbrev pub if_eval : Bool → ℕ → ℕ
 if_eval true n = n
 if_eval false n = 0
 
+-- 1 where the numbers are equal
+abbrev pub is : ℕ → ℕ → ℕ
+is x k = if_eval (eqb k x) 1
+
 -- What a view weighs. The acts in sets:
 abbrev pub in_sets : (PlainAct → ℕ) → View → ℕ
 in_sets h v = weigh (λ (s : PlainHistory). weigh h s.acts) v.sets
@@ -90,7 +94,7 @@ FitsPerson p = Rises (name_of p.origin) p.acts × Each (λ (a : PlainAct). a.pro
 
 -- the acts of this ticket
 abbrev pub of_ticket : ℕ → PlainAct → ℕ
-of_ticket x a = if_eval (eqb a.ticket x) 1
+of_ticket x a = is x a.ticket
 
 -- who is not yet born was made by an act of a set here
 abbrev pub FitsUnborn : View → Birth → Type 0
@@ -119,9 +123,17 @@ pub record Ruled (n : ℕ) (views : List View) : Type 0 where
 abbrev pub FitsHistory : (ℕ → List PlainAct) → View → Type 0
 FitsHistory history v = Each (λ (s : PlainHistory). s.acts ≡ history s.set) v.sets × Each (λ (p : Person). Each (λ (m : Mark). IsPrefix m.acts (history m.set)) p.full) v.persons
 
--- Where a person failed, a name stands in word 1, and what a person saw there is that name
+-- the marks of full sets of this number
+abbrev pub marks : ℕ → View → ℕ
+marks x v = weigh (λ (p : Person). weigh (λ (m : Mark). is x m.set) p.full) v.persons
+
+-- where m stands in word 1, it is a name if the person failed, and each name that the person saw is that one
+abbrev pub Agrees : ℕ → Person → Type 0
+Agrees m p = (p.failed ≡ true → 0 < m) × Each (λ (q : Option ℕ). IfSome q (λ name. m ≡ suc name)) p.saw
+
+-- what persons know of word 1 is true
 abbrev pub FitsHalt : ℕ → View → Type 0
-FitsHalt m v = Each (λ (p : Person). (p.failed ≡ true → 0 < m) × Each (λ (q : ℕ). m ≡ suc q) p.saw) v.persons
+FitsHalt m v = Each (Agrees m) v.persons
 
 -- the persons that failed, of the name in word 1
 abbrev pub halters : ℕ → View → ℕ
@@ -135,6 +147,8 @@ pub record Holds (words : List ℕ) (views : List View) : Type 0 where
   pub ruled : Ruled n views
   pub history : ℕ → List PlainAct
   pub marked : Each (FitsHistory history) views
+  -- where there is a mark of a full set, there is a set of its number
+  pub listed : (x : ℕ) → 1 ≤ weigh (marks x) views → 1 ≤ weigh (numbers (is x)) views
   -- nothing was done before all sets are opened
   pub unwritten : 0 < weigh opened views → (k : ℕ) → history k ≡ []
   pub halted : Each (FitsHalt m) views

@@ -1,8 +1,8 @@
 -- What each kind of step makes of a view.
-use Rattle.std.specs.Prelude.{Option, Some, None, ◌≡◌, ℕ, zero, suc, ◌-◌, ◌<◌, ◌≤◌, List, [], ◌∷◌, ◌++◌, map, drop, slice_index, Bool, true, false}
+use Rattle.std.specs.Prelude.{Option, Some, None, ◌≡◌, ℕ, zero, suc, ◌<◌, ◌≤◌, List, [], ◌∷◌, ◌++◌, map, drop, slice_index, Bool, true, false}
 use Rattle.atomic_table.specs.Seated.{TableId}
 use Rattle.cl_ticket.specs.Weights.{Each, weigh}
-use Rattle.cl_ticket.specs.Rule.{opening_view, set_view, process_view, name_of, depth_of, if_eval}
+use Rattle.cl_ticket.specs.Rule.{opening_view, set_view, process_view, name_of, depth_of, if_eval, Agrees}
 use Rattle.cl_value.specs.Plain.{PlainWhat, DidOut, PlainAct, PlainHistory}
 use Rattle.cl_value.specs.Acts.{is_eval}
 use Rattle.cl_ticket.specs.Persons.{Birth, Mark, Origin, Root, Born, Person}
@@ -150,21 +150,28 @@ abbrev pub standing : ℕ → ℕ → ℕ
 standing mine zero = mine
 standing mine (suc k) = suc k
 
+-- the name that a number in word 1 stands for, if it stands for one
+abbrev pub name_at : ℕ → Option ℕ
+name_at zero = None
+name_at (suc q) = Some q
+
 -- the person failed, and saw who failed first
 abbrev pub with_halt : Person → ℕ → Person
-with_halt p m = record { origin = p.origin; acts = p.acts; full = p.full; failed = true; saw = (m - 1) ∷ p.saw }
+with_halt p m = record { origin = p.origin; acts = p.acts; full = p.full; failed = true; saw = name_at m ∷ p.saw }
 
+-- what stands in word 1 afterwards agrees with what was known before
 abbrev pub Halted : ℕ → View → ℕ → View → Type 0
-Halted mine v found w = w ≡ process_view (with_halt (person_in v.persons) (standing mine found) ∷ others_in v.persons)
+Halted mine v found w = (w ≡ process_view (with_halt (person_in v.persons) (standing mine found) ∷ others_in v.persons)) × Each (Agrees (standing mine found)) v.persons
 
--- the person saw who failed first, if anybody did
-abbrev pub with_sight : Person → ℕ → Person
-with_sight p zero = p
-with_sight p (suc q) = record { origin = p.origin; acts = p.acts; full = p.full; failed = p.failed; saw = q ∷ p.saw }
+-- the person saw who failed first, or that nobody had failed
+abbrev pub with_sight : Person → Option ℕ → Person
+with_sight p q = record { origin = p.origin; acts = p.acts; full = p.full; failed = p.failed; saw = q ∷ p.saw }
 
+-- what was found in word 1 is what the person saw, and agrees with what was known before
 abbrev pub Sighted : View → ℕ → View → Type 0
-Sighted v found w = w ≡ process_view (with_sight (person_in v.persons) found ∷ others_in v.persons)
+Sighted v found w = (w ≡ process_view (with_sight (person_in v.persons) (name_at found) ∷ others_in v.persons)) × Each (Agrees found) v.persons
 
+-- the number in word 1 that stands for a name, or for nobody
 abbrev pub seen : Option ℕ → ℕ
 seen None = 0
 seen (Some q) = suc q

@@ -89,13 +89,13 @@ newborn b = new_process (person (Born b) [])
 abbrev pub with_gathered : Process → Process → Process
 with_gathered p q = record { person = p.person; gathered = p.gathered ++ everyone q }
 
--- the process failed, and saw the name that is one less than this number
+-- the process failed, and saw the name that this number in word 1 stands for
 abbrev pub after_halt : Process → ℕ → Process
 after_halt p m = record { person = with_halt p.person m; gathered = p.gathered }
 
--- the process saw the name that is one less than this number, or nobody's at 0
-abbrev pub after_sight : Process → ℕ → Process
-after_sight p m = record { person = with_sight p.person m; gathered = p.gathered }
+-- the process saw who failed first, or that nobody had failed
+abbrev pub after_sight : Process → Option ℕ → Process
+after_sight p q = record { person = with_sight p.person q; gathered = p.gathered }
 
 -- what a token shows of its view
 abbrev pub guests : List Person → Option Process

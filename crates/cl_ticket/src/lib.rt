@@ -18,7 +18,7 @@ ghost use Rattle.cl_value.specs.Tickets.{by_ticket, NumberedFrom};
 ghost use Rattle.cl_value.specs.Views.{plain_what};
 ghost use Rattle.cl_ticket.specs.Weights.{Each, weigh};
 ghost use Rattle.cl_ticket.specs.Persons.{Root};
-ghost use Rattle.cl_ticket.specs.Rule.{opening_view, name_of, Ruled};
+ghost use Rattle.cl_ticket.specs.Rule.{opening_view, name_of, Agrees, Ruled};
 ghost use Rattle.cl_ticket.specs.Steps.{act_of, seen, birth_in, set_in, end_view, person, has_one, evals_in, IsSet, Drawn};
 ghost use Rattle.cl_ticket.specs.Starts.{start_of, live_of};
 ghost use Rattle.cl_ticket.specs.Points.{names_of, Differ, SameNumbers, AreBelow, OwnActs, HaveOwners, IsMadeBy, FullMarks, HaltMarks, IsHalter};
@@ -101,6 +101,7 @@ pub fn draw<K: Plan>(tickets: &Tickets<K>, set: &mut SetSeat<K>, site: u32, what
 
 /// The guest leaves the set, with its acts and those that it has gathered. Where `full`, it is marked with the
 /// number of the set and the set's acts. Takes no memory.
+#[tactic(auto, using(crate::proofs::Moves::leaves_as, crate::proofs::Moves::leaves_full_as))]
 pub fn leave<K: Plan>(tickets: &Tickets<K>, set: &mut SetSeat<K>, full: bool) -> ProcSeat<K>
     requires guest { HasGuest set.old }
     ensures set { set.new ≡ with_guest set.old None }
@@ -123,6 +124,7 @@ pub fn leave<K: Plan>(tickets: &Tickets<K>, set: &mut SetSeat<K>, full: bool) ->
 /// The token of the process that an `eval` made, where it is the one eval drawn in this set that waits for its
 /// process. The process has the eval's ticket as its name, begins with the eval's live tuple, and is one deeper
 /// than the process that did the eval. Takes no memory.
+#[tactic(auto, using(crate::proofs::Moves::bears_as))]
 pub fn born<K: Plan>(tickets: &Tickets<K>, set: &mut SetSeat<K>) -> ProcSeat<K>
     requires one { set.old.unborn ≡ birth_in set.old.unborn ∷ [] }
     ensures set { set.new ≡ all_born set.old }
@@ -145,6 +147,7 @@ pub fn born<K: Plan>(tickets: &Tickets<K>, set: &mut SetSeat<K>) -> ProcSeat<K>
 pub fn halt<K: Plan>(tickets: &Tickets<K>, seat: &mut ProcSeat<K>) -> u64
     ensures some { 0 < result }
     ensures failed { seat.new ≡ after_halt seat.old result }
+    ensures agrees { Each (Agrees result) (everyone seat.old) }
 {
     let mine = seat.name + 1;
     let found = tickets
@@ -154,9 +157,11 @@ pub fn halt<K: Plan>(tickets: &Tickets<K>, seat: &mut ProcSeat<K>) -> u64
     if found == 0 { mine } else { found }
 }
 
-/// The name of the process that failed first, if one failed. Takes no memory.
+/// The name of the process that failed first, or `None` where nobody had failed when it looked. The process
+/// keeps what it saw, and what it and those that it has gathered knew before agrees with it. Takes no memory.
 pub fn see_halt<K: Plan>(tickets: &Tickets<K>, seat: &mut ProcSeat<K>) -> Option<u64>
-    ensures saw { seat.new ≡ after_sight seat.old (seen result) }
+    ensures saw { seat.new ≡ after_sight seat.old result }
+    ensures agrees { Each (Agrees (seen result)) (everyone seat.old) }
 {
     let found = tickets.table.shared.load::<Sights>(&mut seat.seat, 1);
     if found == 0 { None } else { Some(found - 1) }
