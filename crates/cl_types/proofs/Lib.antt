@@ -1,6 +1,8 @@
 pub mod Arguments
 pub mod Directives
+pub mod Finding
 pub mod Firsts
+pub mod Gathering
 pub mod Judging
 pub mod Listing
 pub mod Lookups
@@ -10,4 +12,5 @@ pub mod Parts
 mod Rows
 pub mod Rules
 pub mod Sentences
+pub mod Typing
 pub mod Walking

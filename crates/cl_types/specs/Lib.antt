@@ -2,8 +2,10 @@ pub mod Declarations
 pub mod Ends
 pub mod Expressions
 pub mod Faults
+pub mod Fields
 pub mod Folds
 pub mod Formats
+pub mod Gathered
 pub mod Items
 pub mod Journals
 pub mod Loops

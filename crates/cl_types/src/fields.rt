@@ -1,0 +1,5 @@
+mod expression;
+mod form;
+mod type_of;
+
+pub use form::FieldForm;
