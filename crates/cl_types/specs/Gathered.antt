@@ -1,4 +1,4 @@
--- What is found in lists of parts by one function. (This project.)
+-- What is found in lists of parts by one function, and in parts that a walk comes to. (This project.)
 use Rattle.std.specs.Prelude.{List, [], ◌∷◌, ◌++◌, Option, Some, None}
 use Rattle.cl_ast.specs.declared.tree.Expr.{Expr}
 use Rattle.cl_types.specs.Fields.{Finds, expr_forms}

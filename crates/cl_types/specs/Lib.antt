@@ -1,3 +1,4 @@
+pub mod Adds
 pub mod Declarations
 pub mod Ends
 pub mod Expressions
@@ -5,6 +6,7 @@ pub mod Faults
 pub mod Fields
 pub mod Folds
 pub mod Formats
+pub mod Found
 pub mod Gathered
 pub mod Items
 pub mod Journals

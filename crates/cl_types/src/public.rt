@@ -1,6 +1,8 @@
+use crate::fields::field_forms;
 use crate::item::walk;
-use crate::{Fault, TypeKind};
+use crate::{Fault, FieldForm, TypeKind};
 use cl_ast::{Item, Unit};
+use sqlite_items::Items;
 use std::alloc::{AllocError, Global};
 use std::marker::Model;
 
@@ -55,6 +57,8 @@ impl Model for Typed {
 impl Typed {
     ghost use Rattle.std.specs.Prelude.{◌≡◌, []};
     ghost use Rattle.cl_types.specs.Unit.{faults};
+    ghost use Rattle.cl_types.specs.Found.{field_forms};
+    ghost use Rattle.std.specs.Prelude.{IfOk};
 
     /// The tree. It takes no memory.
     pub fn unit(&self) -> &Unit
@@ -62,6 +66,15 @@ impl Typed {
         ensures faultless { faults result.now.items ≡ [] }
     {
         &self.tree
+    }
+
+    /// What the fields of each operation are: one list for each operation, in the order of the text, and in it one
+    /// form for each of its fields, in order. An operation in a field of another stands behind it. `AllocError`
+    /// comes where the allocator refused memory.
+    pub fn field_forms(&self, alloc: Global) -> Result<Items<Items<FieldForm>>, AllocError>
+        ensures { IfOk result (λ forms. forms ≡ field_forms self.now.items) }
+    {
+        field_forms(self.tree.items.as_slice(), alloc)
     }
 }
 

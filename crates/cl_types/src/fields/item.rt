@@ -1,0 +1,70 @@
+ghost use Rattle.std.specs.Prelude.{◌≡◌, OnOk, IfOk};
+ghost use Rattle.cl_types.specs.Found.{function_forms, item_forms, item_behind, onward, field_forms};
+ghost use Rattle.cl_types.specs.Items.{function_known};
+ghost use Rattle.cl_types.specs.Adds.{Adds, behind_all};
+ghost use Rattle.cl_types.specs.Walks.{Keeps};
+
+use super::FieldForm;
+use super::statement::{block, variables};
+use crate::Journal;
+use crate::item::{declare_function, define, known_first, parameters};
+use crate::scopes::Scopes;
+use cl_ast::{Define, Function, Item};
+use sqlite_items::Items;
+use std::alloc::{AllocError, Global};
+
+/// Makes a constant known.
+fn constant<'a>(part: &'a Define, scopes: &mut Scopes<'a>) -> Result<(), AllocError>
+    ensures { OnOk result (scopes.new ≡ (define_walked part.now scopes.old).known) }
+{
+    let mut journal = Journal::new();
+    define(part, scopes, &mut journal)
+}
+
+ghost use Rattle.cl_types.specs.Items.{define_walked};
+
+/// Puts the forms of the operations in a function behind those that are there, and makes it known.
+fn function<'a>(
+    part: &'a Function,
+    alloc: Global,
+    scopes: &mut Scopes<'a>,
+    forms: &mut Items<Items<FieldForm>>,
+) -> Result<(), AllocError>
+    ensures { OnOk result (Adds (function_forms part.now scopes.old) (function_known part.now scopes.old) scopes.new forms.old forms.new) }
+{
+    declare_function(part, alloc, scopes)?;
+    let outer = scopes.enter();
+    let mut journal = Journal::new();
+    parameters(part.parameters.as_slice(), scopes, &mut journal)?;
+    block(&part.body, alloc, scopes, forms)?;
+    scopes.leave(outer);
+    Ok(())
+}
+
+/// The same of a part of a source outside all others.
+fn item<'a>(
+    part: &'a Item,
+    alloc: Global,
+    scopes: &mut Scopes<'a>,
+    forms: &mut Items<Items<FieldForm>>,
+) -> Result<(), AllocError>
+    ensures { OnOk result (Adds (item_forms part.now scopes.old) (item_behind part.now scopes.old) scopes.new forms.old forms.new) }
+{
+    match part {
+        Item::Define(part) => constant(part, scopes),
+        Item::Variables(part) => variables(part, alloc, scopes, forms),
+        Item::Function(part) => function(part, alloc, scopes, forms),
+    }
+}
+
+/// What the fields of each operation of a source are, in the order of the text.
+pub fn field_forms(parts: &[Item], alloc: Global) -> Result<Items<Items<FieldForm>>, AllocError>
+    ensures { IfOk result (λ forms. forms ≡ field_forms parts.now) }
+{
+    let mut scopes = known_first(parts, alloc)?;
+    let mut forms = Items::new(alloc);
+    for part in parts {
+        item(part, alloc, &mut scopes, &mut forms)?;
+    }
+    Ok(forms)
+}
