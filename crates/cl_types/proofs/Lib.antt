@@ -1,8 +1,11 @@
 pub mod Arguments
+pub mod Clean
 pub mod Directives
+pub mod Faultless
 pub mod Finding
 pub mod Firsts
 pub mod Gathering
+pub mod Inductions
 pub mod Judging
 pub mod Listing
 pub mod Lookups
@@ -16,3 +19,4 @@ pub mod Sentences
 pub mod Stating
 pub mod Typing
 pub mod Walking
+pub mod Welltyped

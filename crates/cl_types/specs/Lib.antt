@@ -1,5 +1,6 @@
 pub mod Adds
 pub mod Declarations
+pub mod EachTyped
 pub mod Ends
 pub mod Expressions
 pub mod Faults

@@ -2,6 +2,8 @@ mod expression;
 mod form;
 mod item;
 mod statement;
+#[cfg(test)]
+mod tests;
 mod type_of;
 
 pub use form::FieldForm;

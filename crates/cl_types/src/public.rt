@@ -58,6 +58,7 @@ impl Typed {
     ghost use Rattle.std.specs.Prelude.{◌≡◌, []};
     ghost use Rattle.cl_types.specs.Unit.{faults};
     ghost use Rattle.cl_types.specs.Found.{field_forms};
+    ghost use Rattle.cl_types.specs.EachTyped.{EachTyped};
     ghost use Rattle.std.specs.Prelude.{IfOk};
 
     /// The tree. It takes no memory.
@@ -71,8 +72,10 @@ impl Typed {
     /// What the fields of each operation are: one list for each operation, in the order of the text, and in it one
     /// form for each of its fields, in order. An operation in a field of another stands behind it. `AllocError`
     /// comes where the allocator refused memory.
+    #[tactic(auto, using(crate::proofs::Faultless::forms_typed))]
     pub fn field_forms(&self, alloc: Global) -> Result<Items<Items<FieldForm>>, AllocError>
-        ensures { IfOk result (λ forms. forms ≡ field_forms self.now.items) }
+        ensures forms { IfOk result (λ forms. forms ≡ field_forms self.now.items) }
+        ensures typed { IfOk result (λ forms. EachTyped forms) }
     {
         field_forms(self.tree.items.as_slice(), alloc)
     }

@@ -1,0 +1,365 @@
+-- Where no fault is noted in a text, the type of each field of its operations is found.
+use Rattle.std.proofs.Common.{◌≡◌, ◌∙◌, ap, sym, refl, subst, ℕ, true, List, [], ◌∷◌, ◌++◌, map, length, Option, Some, None}
+use Rattle.std.specs.Prelude.{option_map, if◌then◌else◌}
+use Rattle.cl_ast.specs.declared.span.Span.{Span}
+use Rattle.cl_ast.specs.declared.tree.TypeName.{TypeName}
+use Rattle.cl_ast.specs.declared.tree.Expr.{Expr}
+use Rattle.cl_ast.specs.declared.tree.Call.{Call}
+use Rattle.cl_ast.specs.declared.tree.Operation.{Operation}
+use Rattle.cl_ast.specs.declared.tree.Spanned.{Spanned}
+use Rattle.cl_ast.specs.declared.statement.Stmt.{Stmt}
+use Rattle.cl_ast.specs.declared.statement.Stmt.TheVariants as stmts
+use Rattle.cl_ast.specs.declared.statement.Block.{Block, out-Block}
+use Rattle.cl_ast.specs.declared.statement.Do.{Do, out-Do}
+use Rattle.cl_ast.specs.declared.statement.For.{For, out-For}
+use Rattle.cl_ast.specs.declared.statement.If.{If, out-If}
+use Rattle.cl_ast.specs.declared.statement.While.{While, out-While}
+use Rattle.cl_ast.specs.declared.statement.Stmt.TheFolds as s
+use Rattle.cl_ast.specs.declared.statement.Stmt.TheOpen.{Stmt-F, Block-F, Do-F, For-F, If-F, While-F}
+use Rattle.cl_ast.specs.declared.statement.Stmt.TheViews.{out-Stmt, roll-Stmt, roll-Block, roll-Do, roll-For, roll-If, roll-While, roll-out-Stmt, out-roll-Block, out-roll-Do, out-roll-For, out-roll-If, out-roll-While}
+use Rattle.cl_ast.specs.declared.statement.Declarator.{Declarator}
+use Rattle.cl_ast.specs.declared.statement.Form.{Form}
+use Rattle.cl_ast.specs.declared.statement.Form.TheVariants as given
+use Rattle.cl_ast.specs.declared.statement.Variables.{Variables}
+use Rattle.cl_ast.specs.declared.statement.Assign.{Assign}
+use Rattle.cl_ast.specs.declared.statement.Change.{Change}
+use Rattle.cl_ast.specs.declared.statement.Change.TheVariants as changes
+use Rattle.cl_ast.specs.declared.statement.Print.{Print}
+use Rattle.cl_ast.specs.declared.statement.Return.{Return}
+use Rattle.cl_ast.specs.declared.statement.Function.{Function}
+use Rattle.cl_ast.specs.declared.statement.Item.{Item}
+use Rattle.cl_ast.specs.declared.statement.Item.TheVariants as items
+use Rattle.cl_types.specs.declared.context.Access.TheVariants as accesses
+use Rattle.cl_types.specs.declared.context.Context.{Context}
+use Rattle.cl_types.specs.declared.context.Purpose.TheVariants as purposes
+use Rattle.cl_types.specs.declared.context.Reach.{Reach}
+use Rattle.cl_types.specs.declared.context.Reach.TheVariants as reaches
+use Rattle.cl_types.specs.declared.directive.Directive.{Directive}
+use Rattle.cl_types.specs.declared.fault.TypeKind.TheVariants as kinds
+use Rattle.cl_types.specs.Notes.{Note, found, found_all}
+use Rattle.cl_types.specs.Notes as notes
+use Rattle.cl_types.specs.Declarations.{Known, enter, declared_again}
+use Rattle.cl_types.specs.Expressions.{judged, judged_place, judged_call, operation_notes, count_faults, constant_of}
+use Rattle.cl_types.specs.Formats.{directives_of}
+use Rattle.cl_types.specs.Statements.{Walked, in_order, in_context, in_loop, scoped_notes, maybe_notes, test_notes, initial_faults, initial_notes, form_notes, declarator_walked, variables_walked, change_notes, assign_notes, argument_faults, argument_notes, arguments_notes, print_parts, print_notes, value_return_faults, value_notes, return_notes, leave_notes, walked, block_walked}
+use Rattle.cl_types.specs.Loops.{if_notes, while_notes, do_notes, for_notes}
+use Rattle.cl_types.specs.Items.{function_context, function_known, parameters_walked, body_walked, item_walked, items_walked, known_first}
+use Rattle.cl_types.specs.Unit.{main_notes, unit_notes, faults}
+use Rattle.cl_types.specs.Fields.{Forms, expr_forms, place_forms}
+use Rattle.cl_types.specs.Gathered.{each, maybe_forms}
+use Rattle.cl_types.specs.Found.{onward, change_forms, assign_forms, initial_forms, variable_behind, declarator_forms, variables_forms, spanned_forms, printed_forms, anywhere, known_behind, stmt_forms, block_forms, item_forms, item_behind, field_forms}
+use Rattle.cl_types.specs.Adds.{alone_forms, maybe_stmt_forms, if_parts, while_parts, do_parts, for_parts}
+use Rattle.cl_types.specs.EachTyped.{EachTyped}
+use Rattle.cl_types.proofs.Sentences as sentences
+use Rattle.cl_types.proofs.Stating as stating
+use Rattle.cl_types.proofs.Clean.{Clean, clean_split, clean_unit, each_append}
+use Rattle.cl_types.proofs.Welltyped.{Sound, sound_is}
+use Rattle.cl_types.proofs.Inductions.{every_expr, every_place, every_call, every_operation}
+
+-- ---- two parts
+
+both : (a b : List Note) (x y : Forms) → Sound a x → Sound b y → Sound (a ++ b) (x ++ y)
+both a b x y f g = λ (c : Clean (a ++ b)). let d = clean_split a b c in each_append x y (f d.0) (g d.1)
+
+-- something is noted besides
+beside : (a b : List Note) (x : Forms) → Sound b x → Sound (a ++ b) x
+beside a b x g = λ (c : Clean (a ++ b)). g (clean_split a b c).1
+
+before : (a b : List Note) (x : Forms) → Sound a x → Sound (a ++ b) x
+before a b x g = λ (c : Clean (a ++ b)). g (clean_split a b c).0
+
+nothing : (ns : List Note) → Sound ns []
+nothing ns = λ (c : Clean ns). tt
+
+sound_expr : (x : Expr) (known : Known) → Sound (judged x known).notes (expr_forms x known)
+sound_expr x known = λ (c : Clean (judged x known).notes). (every_expr x known c).1
+
+-- ---- parts of statements
+
+sound_change : (x : Change) (known : Known) → Sound (change_notes known x) (change_forms x known)
+sound_change (changes.Set e) known = sound_expr e known
+sound_change (changes.Add e) known = sound_expr e known
+sound_change (changes.Subtract e) known = sound_expr e known
+sound_change (changes.Multiply e) known = sound_expr e known
+sound_change changes.Increment known = nothing []
+sound_change changes.Decrement known = nothing []
+
+sound_assign : (x : Assign) (known : Known) → Sound (assign_notes known x) (assign_forms x known)
+sound_assign x known = both (judged_place x.place accesses.Write known).notes (change_notes known x.change) (place_forms x.place known) (change_forms x.change known) (every_place x.place accesses.Write known) (sound_change x.change known)
+
+sound_initial : (reach : Reach) (t : TypeName) (x : Form) (known : Known) → Sound (form_notes reach t known x) (initial_forms x known)
+sound_initial reach t given.Bare known = nothing []
+sound_initial reach t (given.Array size) known = nothing (form_notes reach t known (given.Array size))
+sound_initial reach t (given.Value x) known =
+    before (judged x.expr known).notes (found_all (initial_faults reach t (judged x.expr known).type (constant_of x.expr known)) x.span.start) (expr_forms x.expr known) (sound_expr x.expr known)
+
+sound_declarators : (reach : Reach) (t : TypeName) (ds : List Declarator) (known : Known) → Sound (in_order (map (declarator_walked reach t) ds) known).notes (onward declarator_forms (variable_behind t) ds known)
+sound_declarators reach t [] known = nothing []
+sound_declarators reach t (d ∷ ds) known =
+    both (declared_again d.name known ++ form_notes reach t known d.form) (in_order (map (declarator_walked reach t) ds) (variable_behind t d known)).notes (initial_forms d.form known) (onward declarator_forms (variable_behind t) ds (variable_behind t d known))
+    (beside (declared_again d.name known) (form_notes reach t known d.form) (initial_forms d.form known) (sound_initial reach t d.form known)) (sound_declarators reach t ds (variable_behind t d known))
+
+sound_argument : (d : Option Directive) (x : Spanned) (known : Known) → Sound (argument_notes known d x) (expr_forms x.expr known)
+sound_argument None x known = sound_expr x.expr known
+sound_argument (Some d) x known = before (judged x.expr known).notes (found_all (argument_faults d (judged x.expr known).type) x.span.start) (expr_forms x.expr known) (sound_expr x.expr known)
+
+sound_arguments : (ds : List Directive) (xs : List Spanned) (known : Known) → Sound (arguments_notes known ds xs) (printed_forms xs known)
+sound_arguments ds [] known = nothing []
+sound_arguments [] (x ∷ xs) known = both (argument_notes known None x) (arguments_notes known [] xs) (expr_forms x.expr known) (printed_forms xs known) (sound_argument None x known) (sound_arguments [] xs known)
+sound_arguments (d ∷ ds) (x ∷ xs) known = both (argument_notes known (Some d) x) (arguments_notes known ds xs) (expr_forms x.expr known) (printed_forms xs known) (sound_argument (Some d) x known) (sound_arguments ds xs known)
+
+sound_print : (x : Print) (known : Known) → Sound (print_notes known x) (printed_forms x.arguments known)
+sound_print x known = by (directives_of x.format.bytes)
+  where
+    by : (ds : Option (List Directive)) → Sound (print_parts known ds x) (printed_forms x.arguments known)
+    by None = λ (c : Clean (print_parts known None x)). absurd c
+    by (Some ds) = beside (found_all (count_faults (length ds) (length x.arguments)) x.span.start) (arguments_notes known ds x.arguments) (printed_forms x.arguments known) (sound_arguments ds x.arguments known)
+
+sound_value : (context : Context) (place : ℕ) (x : Option Expr) (known : Known) → Sound (value_notes context place known x) (maybe_forms x known)
+sound_value context place None known = nothing []
+sound_value context place (Some e) known = beside (found_all (value_return_faults context.result) place) (judged e known).notes (expr_forms e known) (sound_expr e known)
+
+sound_test : (x : Option Expr) (known : Known) → Sound (test_notes x known) (maybe_forms x known)
+sound_test None known = nothing []
+sound_test (Some e) known = sound_expr e known
+
+-- ---- what is known behind a statement is the same whatever stands round it
+
+same_known : (x : Stmt) (context : Context) (known : Known) → (walked x context known).known ≡ known_behind x known
+same_known x context known = subst P (roll-out-Stmt x) (by (out-Stmt x))
+  where
+    P : Stmt → Type 0
+    P y = (walked y context known).known ≡ known_behind y known
+
+    by : (y : Stmt-F Stmt Block Do For If While) → P (roll-Stmt y)
+    by (Stmt-F.Block y) = subst P (sym (stmts.rolls-Block y)) (ap (λ (w : Walked). w.known) (sentences.of_block y context known) ∙ sym (ap (λ (w : Walked). w.known) (sentences.of_block y anywhere known)))
+    by (Stmt-F.Empty y) = subst P (sym (stmts.rolls-Empty y)) (ap (λ (w : Walked). w.known) (sentences.of_empty y context known) ∙ sym (ap (λ (w : Walked). w.known) (sentences.of_empty y anywhere known)))
+    by (Stmt-F.Variables y) = subst P (sym (stmts.rolls-Variables y)) (ap (λ (w : Walked). w.known) (sentences.of_variables y context known) ∙ sym (ap (λ (w : Walked). w.known) (sentences.of_variables y anywhere known)))
+    by (Stmt-F.Assign y) = subst P (sym (stmts.rolls-Assign y)) (ap (λ (w : Walked). w.known) (sentences.of_assign y context known) ∙ sym (ap (λ (w : Walked). w.known) (sentences.of_assign y anywhere known)))
+    by (Stmt-F.Call y) = subst P (sym (stmts.rolls-Call y)) (ap (λ (w : Walked). w.known) (sentences.of_call y context known) ∙ sym (ap (λ (w : Walked). w.known) (sentences.of_call y anywhere known)))
+    by (Stmt-F.Operation y) = subst P (sym (stmts.rolls-Operation y)) (ap (λ (w : Walked). w.known) (sentences.of_operation y context known) ∙ sym (ap (λ (w : Walked). w.known) (sentences.of_operation y anywhere known)))
+    by (Stmt-F.Print y) = subst P (sym (stmts.rolls-Print y)) (ap (λ (w : Walked). w.known) (sentences.of_print y context known) ∙ sym (ap (λ (w : Walked). w.known) (sentences.of_print y anywhere known)))
+    by (Stmt-F.If y) = subst P (sym (stmts.rolls-If y)) (ap (λ (w : Walked). w.known) (sentences.of_if y context known) ∙ sym (ap (λ (w : Walked). w.known) (sentences.of_if y anywhere known)))
+    by (Stmt-F.While y) = subst P (sym (stmts.rolls-While y)) (ap (λ (w : Walked). w.known) (sentences.of_while y context known) ∙ sym (ap (λ (w : Walked). w.known) (sentences.of_while y anywhere known)))
+    by (Stmt-F.Do y) = subst P (sym (stmts.rolls-Do y)) (ap (λ (w : Walked). w.known) (sentences.of_do y context known) ∙ sym (ap (λ (w : Walked). w.known) (sentences.of_do y anywhere known)))
+    by (Stmt-F.For y) = subst P (sym (stmts.rolls-For y)) (ap (λ (w : Walked). w.known) (sentences.of_for y context known) ∙ sym (ap (λ (w : Walked). w.known) (sentences.of_for y anywhere known)))
+    by (Stmt-F.Break y) = subst P (sym (stmts.rolls-Break y)) (ap (λ (w : Walked). w.known) (sentences.of_break y context known) ∙ sym (ap (λ (w : Walked). w.known) (sentences.of_break y anywhere known)))
+    by (Stmt-F.Continue y) = subst P (sym (stmts.rolls-Continue y)) (ap (λ (w : Walked). w.known) (sentences.of_continue y context known) ∙ sym (ap (λ (w : Walked). w.known) (sentences.of_continue y anywhere known)))
+    by (Stmt-F.Return y) = subst P (sym (stmts.rolls-Return y)) (ap (λ (w : Walked). w.known) (sentences.of_return y context known) ∙ sym (ap (λ (w : Walked). w.known) (sentences.of_return y anywhere known)))
+
+-- ---- statements
+
+abbrev GoodStmt : Stmt → Type 0
+GoodStmt x = (context : Context) (known : Known) → Sound (walked x context known).notes (stmt_forms x known)
+
+abbrev GoodBlock : Block → Type 0
+GoodBlock x = (context : Context) (known : Known) → Sound (block_walked x context known).notes (block_forms x known)
+
+abbrev GoodDo : Do → Type 0
+GoodDo x = (context : Context) (known : Known) → Sound (do_notes x context known) (do_parts x known)
+
+abbrev GoodFor : For → Type 0
+GoodFor x = (context : Context) (known : Known) → Sound (for_notes x context known) (for_parts x known)
+
+abbrev GoodIf : If → Type 0
+GoodIf x = (context : Context) (known : Known) → Sound (if_notes x context known) (if_parts x known)
+
+abbrev GoodWhile : While → Type 0
+GoodWhile x = (context : Context) (known : Known) → Sound (while_notes x context known) (while_parts x known)
+
+abbrev SuchStmt : Type 0
+SuchStmt = (y : Stmt) × GoodStmt y
+
+abbrev SuchBlock : Type 0
+SuchBlock = (y : Block) × GoodBlock y
+
+abbrev SuchDo : Type 0
+SuchDo = (y : Do) × GoodDo y
+
+abbrev SuchFor : Type 0
+SuchFor = (y : For) × GoodFor y
+
+abbrev SuchIf : Type 0
+SuchIf = (y : If) × GoodIf y
+
+abbrev SuchWhile : Type 0
+SuchWhile = (y : While) × GoodWhile y
+
+-- a layer, without what holds of its parts
+
+abbrev plain-Stmt : Stmt-F SuchStmt SuchBlock SuchDo SuchFor SuchIf SuchWhile → Stmt-F Stmt Block Do For If While
+plain-Stmt y = s.map-Stmt SuchStmt SuchBlock SuchDo SuchFor SuchIf SuchWhile Stmt Block Do For If While (λ z. z.0) (λ z. z.0) (λ z. z.0) (λ z. z.0) (λ z. z.0) (λ z. z.0) y
+
+abbrev plain-Block : Block-F SuchStmt SuchBlock SuchDo SuchFor SuchIf SuchWhile → Block-F Stmt Block Do For If While
+plain-Block y = s.map-Block SuchStmt SuchBlock SuchDo SuchFor SuchIf SuchWhile Stmt Block Do For If While (λ z. z.0) (λ z. z.0) (λ z. z.0) (λ z. z.0) (λ z. z.0) (λ z. z.0) y
+
+abbrev plain-Do : Do-F SuchStmt SuchBlock SuchDo SuchFor SuchIf SuchWhile → Do-F Stmt Block Do For If While
+plain-Do y = s.map-Do SuchStmt SuchBlock SuchDo SuchFor SuchIf SuchWhile Stmt Block Do For If While (λ z. z.0) (λ z. z.0) (λ z. z.0) (λ z. z.0) (λ z. z.0) (λ z. z.0) y
+
+abbrev plain-For : For-F SuchStmt SuchBlock SuchDo SuchFor SuchIf SuchWhile → For-F Stmt Block Do For If While
+plain-For y = s.map-For SuchStmt SuchBlock SuchDo SuchFor SuchIf SuchWhile Stmt Block Do For If While (λ z. z.0) (λ z. z.0) (λ z. z.0) (λ z. z.0) (λ z. z.0) (λ z. z.0) y
+
+abbrev plain-If : If-F SuchStmt SuchBlock SuchDo SuchFor SuchIf SuchWhile → If-F Stmt Block Do For If While
+plain-If y = s.map-If SuchStmt SuchBlock SuchDo SuchFor SuchIf SuchWhile Stmt Block Do For If While (λ z. z.0) (λ z. z.0) (λ z. z.0) (λ z. z.0) (λ z. z.0) (λ z. z.0) y
+
+abbrev plain-While : While-F SuchStmt SuchBlock SuchDo SuchFor SuchIf SuchWhile → While-F Stmt Block Do For If While
+plain-While y = s.map-While SuchStmt SuchBlock SuchDo SuchFor SuchIf SuchWhile Stmt Block Do For If While (λ z. z.0) (λ z. z.0) (λ z. z.0) (λ z. z.0) (λ z. z.0) (λ z. z.0) y
+
+stmt_is : (x : Stmt) (context : Context) (known : Known) (w : Walked) (fs : Forms) → walked x context known ≡ w → stmt_forms x known ≡ fs → Sound w.notes fs → Sound (walked x context known).notes (stmt_forms x known)
+stmt_is x context known w fs hw hf g = sound_is (walked x context known).notes w.notes (stmt_forms x known) fs (ap (λ (v : Walked). v.notes) hw) hf g
+
+scoped_good : (x : SuchStmt) (context : Context) (known : Known) → Sound (scoped_notes (walked x.0) context known) (alone_forms x.0 known)
+scoped_good x context known = x.1 context (enter known)
+
+maybe_good : (x : Option SuchStmt) (context : Context) (known : Known) → Sound (maybe_notes (option_map walked (option_map (λ z. z.0) x)) context known) (maybe_stmt_forms (option_map (λ z. z.0) x) known)
+maybe_good None context known = nothing []
+maybe_good (Some x) context known = scoped_good x context known
+
+good_block : (x : Block) → GoodBlock x → GoodStmt (stmts.Block x)
+good_block x g context known = stmt_is (stmts.Block x) context known _ _ (sentences.of_block x context known) (stating.of_block x known) (g context (enter known))
+
+good_empty : (x : Span) → GoodStmt (stmts.Empty x)
+good_empty x context known = stmt_is (stmts.Empty x) context known _ _ (sentences.of_empty x context known) (stating.of_empty x known) (nothing [])
+
+good_variables : (x : Variables) → GoodStmt (stmts.Variables x)
+good_variables x context known = stmt_is (stmts.Variables x) context known _ _ (sentences.of_variables x context known) (stating.of_variables x known) (sound_declarators reaches.Local x.type_name x.declarators known)
+
+good_assign : (x : Assign) → GoodStmt (stmts.Assign x)
+good_assign x context known = stmt_is (stmts.Assign x) context known _ _ (sentences.of_assign x context known) (stating.of_assign x known) (sound_assign x known)
+
+good_call : (x : Call) → GoodStmt (stmts.Call x)
+good_call x context known = stmt_is (stmts.Call x) context known _ _ (sentences.of_call x context known) (stating.of_call x known) (every_call x purposes.Statement known)
+
+good_operation : (x : Operation) → GoodStmt (stmts.Operation x)
+good_operation x context known = stmt_is (stmts.Operation x) context known _ _ (sentences.of_operation x context known) (stating.of_operation x known) (every_operation x known)
+
+good_print : (x : Print) → GoodStmt (stmts.Print x)
+good_print x context known = stmt_is (stmts.Print x) context known _ _ (sentences.of_print x context known) (stating.of_print x known) (sound_print x known)
+
+good_if : (x : If) → GoodIf x → GoodStmt (stmts.If x)
+good_if x g context known = stmt_is (stmts.If x) context known _ _ (sentences.of_if x context known) (stating.of_if x known) (g context known)
+
+good_while : (x : While) → GoodWhile x → GoodStmt (stmts.While x)
+good_while x g context known = stmt_is (stmts.While x) context known _ _ (sentences.of_while x context known) (stating.of_while x known) (g context known)
+
+good_do : (x : Do) → GoodDo x → GoodStmt (stmts.Do x)
+good_do x g context known = stmt_is (stmts.Do x) context known _ _ (sentences.of_do x context known) (stating.of_do x known) (g context known)
+
+good_for : (x : For) → GoodFor x → GoodStmt (stmts.For x)
+good_for x g context known = stmt_is (stmts.For x) context known _ _ (sentences.of_for x context known) (stating.of_for x known) (g context known)
+
+good_break : (x : Span) → GoodStmt (stmts.Break x)
+good_break x context known = stmt_is (stmts.Break x) context known _ _ (sentences.of_break x context known) (stating.of_break x known) (nothing (leave_notes context x.start))
+
+good_continue : (x : Span) → GoodStmt (stmts.Continue x)
+good_continue x context known = stmt_is (stmts.Continue x) context known _ _ (sentences.of_continue x context known) (stating.of_continue x known) (nothing (leave_notes context x.start))
+
+good_return : (x : Return) → GoodStmt (stmts.Return x)
+good_return x context known = stmt_is (stmts.Return x) context known _ _ (sentences.of_return x context known) (stating.of_return x known) (sound_value context x.span.start x.value known)
+
+stmt_step : (y : Stmt-F SuchStmt SuchBlock SuchDo SuchFor SuchIf SuchWhile) → GoodStmt (roll-Stmt (plain-Stmt y))
+stmt_step (Stmt-F.Block x) = subst GoodStmt (sym (stmts.rolls-Block x.0)) (good_block x.0 x.1)
+stmt_step (Stmt-F.Empty x) = subst GoodStmt (sym (stmts.rolls-Empty x)) (good_empty x)
+stmt_step (Stmt-F.Variables x) = subst GoodStmt (sym (stmts.rolls-Variables x)) (good_variables x)
+stmt_step (Stmt-F.Assign x) = subst GoodStmt (sym (stmts.rolls-Assign x)) (good_assign x)
+stmt_step (Stmt-F.Call x) = subst GoodStmt (sym (stmts.rolls-Call x)) (good_call x)
+stmt_step (Stmt-F.Operation x) = subst GoodStmt (sym (stmts.rolls-Operation x)) (good_operation x)
+stmt_step (Stmt-F.Print x) = subst GoodStmt (sym (stmts.rolls-Print x)) (good_print x)
+stmt_step (Stmt-F.If x) = subst GoodStmt (sym (stmts.rolls-If x.0)) (good_if x.0 x.1)
+stmt_step (Stmt-F.While x) = subst GoodStmt (sym (stmts.rolls-While x.0)) (good_while x.0 x.1)
+stmt_step (Stmt-F.Do x) = subst GoodStmt (sym (stmts.rolls-Do x.0)) (good_do x.0 x.1)
+stmt_step (Stmt-F.For x) = subst GoodStmt (sym (stmts.rolls-For x.0)) (good_for x.0 x.1)
+stmt_step (Stmt-F.Break x) = subst GoodStmt (sym (stmts.rolls-Break x)) (good_break x)
+stmt_step (Stmt-F.Continue x) = subst GoodStmt (sym (stmts.rolls-Continue x)) (good_continue x)
+stmt_step (Stmt-F.Return x) = subst GoodStmt (sym (stmts.rolls-Return x)) (good_return x)
+
+statements_good : (ys : List SuchStmt) (context : Context) (known : Known) → Sound (in_order (map (λ y. in_context context (walked y)) (map (λ z. z.0) ys)) known).notes (onward stmt_forms known_behind (map (λ z. z.0) ys) known)
+statements_good [] context known = nothing []
+statements_good (y ∷ ys) context known =
+    let rest = map (λ x. in_context context (walked x)) (map (λ z. z.0) ys) in
+    let P : Known → Type 0 = λ k. Sound (in_order rest k).notes (onward stmt_forms known_behind (map (λ z. z.0) ys) (known_behind y.0 known)) in
+    both (walked y.0 context known).notes (in_order rest (walked y.0 context known).known).notes (stmt_forms y.0 known) (onward stmt_forms known_behind (map (λ z. z.0) ys) (known_behind y.0 known)) (y.1 context known)
+    (subst P (sym (same_known y.0 context known)) (statements_good ys context (known_behind y.0 known)))
+
+block_good : (b : Block) (ys : List SuchStmt) → map (λ z. z.0) ys ≡ (out-Block b).statements → GoodBlock b
+block_good b ys h context known =
+    let P : List Stmt → Type 0 = λ xs. Sound (in_order (map (λ y. in_context context (walked y)) xs) known).notes (onward stmt_forms known_behind xs known) in
+    sound_is _ _ _ _ (ap (λ (w : Walked). w.notes) (sentences.block_is b context known)) (stating.block_is b known) (subst P h (statements_good ys context known))
+
+block_step : (y : Block-F SuchStmt SuchBlock SuchDo SuchFor SuchIf SuchWhile) → GoodBlock (roll-Block (plain-Block y))
+block_step y = block_good (roll-Block (plain-Block y)) y.statements (ap (λ (z : Block-F Stmt Block Do For If While). z.statements) (sym (out-roll-Block (plain-Block y))))
+
+do_step : (y : Do-F SuchStmt SuchBlock SuchDo SuchFor SuchIf SuchWhile) → GoodDo (roll-Do (plain-Do y))
+do_step y context known =
+    let P : Do-F Stmt Block Do For If While → Type 0 = λ z. Sound (scoped_notes (walked z.body) (in_loop context) known ++ (judged z.test known).notes) (alone_forms z.body known ++ expr_forms z.test known) in
+    subst P (sym (out-roll-Do (plain-Do y)))
+    (both (scoped_notes (walked y.body.0) (in_loop context) known) (judged y.test known).notes (alone_forms y.body.0 known) (expr_forms y.test known) (scoped_good y.body (in_loop context) known) (sound_expr y.test known))
+
+while_step : (y : While-F SuchStmt SuchBlock SuchDo SuchFor SuchIf SuchWhile) → GoodWhile (roll-While (plain-While y))
+while_step y context known =
+    let P : While-F Stmt Block Do For If While → Type 0 = λ z. Sound ((judged z.test known).notes ++ scoped_notes (walked z.body) (in_loop context) known) (expr_forms z.test known ++ alone_forms z.body known) in
+    subst P (sym (out-roll-While (plain-While y)))
+    (both (judged y.test known).notes (scoped_notes (walked y.body.0) (in_loop context) known) (expr_forms y.test known) (alone_forms y.body.0 known) (sound_expr y.test known) (scoped_good y.body (in_loop context) known))
+
+if_maps : (test : Expr) (x : SuchStmt) (y : Option SuchStmt) (span : Span) →
+    plain-If (record { test = test; yes = x; no = y; span = span }) ≡ record { test = test; yes = x.0; no = option_map (λ z. z.0) y; span = span }
+if_maps test x None span = refl
+if_maps test x (Some y) span = refl
+
+if_step : (y : If-F SuchStmt SuchBlock SuchDo SuchFor SuchIf SuchWhile) → GoodIf (roll-If (plain-If y))
+if_step y context known =
+    let P : If-F Stmt Block Do For If While → Type 0 = λ z. Sound ((judged z.test known).notes ++ (scoped_notes (walked z.yes) context known ++ maybe_notes (option_map walked z.no) context known)) (expr_forms z.test known ++ (alone_forms z.yes known ++ maybe_stmt_forms z.no known)) in
+    let other = option_map (λ z. z.0) y.no in
+    subst P (sym (out-roll-If (plain-If y) ∙ if_maps y.test y.yes y.no y.span))
+    (both (judged y.test known).notes (scoped_notes (walked y.yes.0) context known ++ maybe_notes (option_map walked other) context known) (expr_forms y.test known) (alone_forms y.yes.0 known ++ maybe_stmt_forms other known) (sound_expr y.test known)
+    (both (scoped_notes (walked y.yes.0) context known) (maybe_notes (option_map walked other) context known) (alone_forms y.yes.0 known) (maybe_stmt_forms other known) (scoped_good y.yes context known) (maybe_good y.no context known)))
+
+for_maps : (first : Option SuchStmt) (test : Option Expr) (step : Option SuchStmt) (body : SuchStmt) (span : Span) →
+    plain-For (record { first = first; test = test; step = step; body = body; span = span }) ≡ record { first = option_map (λ z. z.0) first; test = test; step = option_map (λ z. z.0) step; body = body.0; span = span }
+for_maps None test None body span = refl
+for_maps None test (Some y) body span = refl
+for_maps (Some x) test None body span = refl
+for_maps (Some x) test (Some y) body span = refl
+
+for_step : (y : For-F SuchStmt SuchBlock SuchDo SuchFor SuchIf SuchWhile) → GoodFor (roll-For (plain-For y))
+for_step y context known =
+    let P : For-F Stmt Block Do For If While → Type 0 = λ z.
+    Sound (maybe_notes (option_map walked z.first) context known ++ (test_notes z.test known ++ (maybe_notes (option_map walked z.step) context known ++ scoped_notes (walked z.body) (in_loop context) known)))
+    (maybe_stmt_forms z.first known ++ (maybe_forms z.test known ++ (maybe_stmt_forms z.step known ++ alone_forms z.body known))) in
+    let first = option_map (λ z. z.0) y.first in
+    let step = option_map (λ z. z.0) y.step in
+    let third : Sound (maybe_notes (option_map walked step) context known ++ scoped_notes (walked y.body.0) (in_loop context) known) (maybe_stmt_forms step known ++ alone_forms y.body.0 known) =
+    both (maybe_notes (option_map walked step) context known) (scoped_notes (walked y.body.0) (in_loop context) known) (maybe_stmt_forms step known) (alone_forms y.body.0 known) (maybe_good y.step context known) (scoped_good y.body (in_loop context) known) in
+    let second : Sound (test_notes y.test known ++ (maybe_notes (option_map walked step) context known ++ scoped_notes (walked y.body.0) (in_loop context) known)) (maybe_forms y.test known ++ (maybe_stmt_forms step known ++ alone_forms y.body.0 known)) =
+    both (test_notes y.test known) (maybe_notes (option_map walked step) context known ++ scoped_notes (walked y.body.0) (in_loop context) known) (maybe_forms y.test known) (maybe_stmt_forms step known ++ alone_forms y.body.0 known) (sound_test y.test known) third in
+    subst P (sym (out-roll-For (plain-For y) ∙ for_maps y.first y.test y.step y.body y.span))
+    (both (maybe_notes (option_map walked first) context known) (test_notes y.test known ++ (maybe_notes (option_map walked step) context known ++ scoped_notes (walked y.body.0) (in_loop context) known)) (maybe_stmt_forms first known)
+    (maybe_forms y.test known ++ (maybe_stmt_forms step known ++ alone_forms y.body.0 known)) (maybe_good y.first context known) second)
+
+every_block : (x : Block) → GoodBlock x
+every_block = s.ind-Block GoodStmt GoodBlock GoodDo GoodFor GoodIf GoodWhile (λ x y is. subst (λ (z : Stmt-F Stmt Block Do For If While). GoodStmt (roll-Stmt z)) is (stmt_step y)) (λ x y is. subst (λ (z : Block-F Stmt Block Do For If While). GoodBlock (roll-Block z)) is (block_step y)) (λ x y is. subst (λ (z : Do-F Stmt Block Do For If While). GoodDo (roll-Do z)) is (do_step y)) (λ x y is. subst (λ (z : For-F Stmt Block Do For If While). GoodFor (roll-For z)) is (for_step y)) (λ x y is. subst (λ (z : If-F Stmt Block Do For If While). GoodIf (roll-If z)) is (if_step y)) (λ x y is. subst (λ (z : While-F Stmt Block Do For If While). GoodWhile (roll-While z)) is (while_step y))
+
+-- ---- whole texts
+
+function_good : (f : Function) (known : Known) → Sound (body_walked f known).notes (block_forms f.body (parameters_walked f.parameters known).known)
+function_good f known =
+    let inner = (parameters_walked f.parameters known).known in
+    beside (parameters_walked f.parameters known).notes (block_walked f.body (function_context f) inner).notes (block_forms f.body inner) (every_block f.body (function_context f) inner)
+
+item_good : (x : Item) (known : Known) → Sound (item_walked x known).notes (item_forms x known)
+item_good (items.Define d) known = nothing (declared_again d.name known)
+item_good (items.Variables v) known = sound_declarators reaches.Global v.type_name v.declarators known
+item_good (items.Function f) known =
+    let inner = enter (function_known f known) in
+    beside (declared_again f.name known) (body_walked f inner).notes (block_forms f.body (parameters_walked f.parameters inner).known) (function_good f inner)
+
+items_good : (xs : List Item) (known : Known) → Sound (items_walked xs known).notes (onward item_forms item_behind xs known)
+items_good [] known = nothing []
+items_good (x ∷ xs) known =
+    both (item_walked x known).notes (items_walked xs (item_behind x known)).notes (item_forms x known) (onward item_forms item_behind xs (item_behind x known)) (item_good x known) (items_good xs (item_behind x known))
+
+pub unit_typed : (xs : List Item) → faults xs ≡ [] → EachTyped (field_forms xs)
+unit_typed xs h = items_good xs (known_first xs) (clean_split (main_notes xs) (items_walked xs (known_first xs)).notes (clean_unit xs h)).1
+
+pub forms_typed : (xs : List Item) (fs : Forms) → faults xs ≡ [] → fs ≡ field_forms xs → EachTyped fs
+forms_typed xs fs h is = subst EachTyped (sym is) (unit_typed xs h)
