@@ -1,9 +1,13 @@
--- Where no fault is noted in a text, the type of each field of its operations is found.
-use Rattle.std.proofs.Common.{◌≡◌, ◌∙◌, ap, sym, refl, subst, ℕ, true, List, [], ◌∷◌, ◌++◌, map, length, Option, Some, None}
+-- In a text each operation is noted and found once. Where no fault is noted, there are at most 1,024, none has more than 16 fields, and the type of
+-- each field is found.
+use Rattle.std.proofs.Common.{◌≡◌, ◌∙◌, ◌≤◌, ap, sym, refl, subst, ℕ, List, [], ◌∷◌, ◌++◌, map, length, Option, Some, None, Result, Ok, Err, IfOk, arith}
+use Rattle.std.specs.List.{AllByRecursion}
 use Rattle.std.specs.Prelude.{option_map, if◌then◌else◌}
 use Rattle.cl_ast.specs.declared.span.Span.{Span}
+use Rattle.cl_ast.specs.declared.tree.Name.{Name}
 use Rattle.cl_ast.specs.declared.tree.TypeName.{TypeName}
 use Rattle.cl_ast.specs.declared.tree.Expr.{Expr}
+use Rattle.cl_ast.specs.declared.tree.Place.{Place}
 use Rattle.cl_ast.specs.declared.tree.Call.{Call}
 use Rattle.cl_ast.specs.declared.tree.Operation.{Operation}
 use Rattle.cl_ast.specs.declared.tree.Spanned.{Spanned}
@@ -20,6 +24,9 @@ use Rattle.cl_ast.specs.declared.statement.Stmt.TheViews.{out-Stmt, roll-Stmt, r
 use Rattle.cl_ast.specs.declared.statement.Declarator.{Declarator}
 use Rattle.cl_ast.specs.declared.statement.Form.{Form}
 use Rattle.cl_ast.specs.declared.statement.Form.TheVariants as given
+use Rattle.cl_ast.specs.declared.statement.Size.{Size}
+use Rattle.cl_ast.specs.declared.statement.Size.TheVariants as sizes
+use Rattle.cl_ast.specs.declared.statement.Parameter.{Parameter}
 use Rattle.cl_ast.specs.declared.statement.Variables.{Variables}
 use Rattle.cl_ast.specs.declared.statement.Assign.{Assign}
 use Rattle.cl_ast.specs.declared.statement.Change.{Change}
@@ -38,41 +45,46 @@ use Rattle.cl_types.specs.declared.directive.Directive.{Directive}
 use Rattle.cl_types.specs.declared.fault.TypeKind.TheVariants as kinds
 use Rattle.cl_types.specs.Notes.{Note, found, found_all}
 use Rattle.cl_types.specs.Notes as notes
-use Rattle.cl_types.specs.Declarations.{Known, enter, declared_again}
+use Rattle.cl_types.specs.Numbers.{plain_number}
+use Rattle.cl_types.specs.Declarations.{Known, look_up, is_declared_here, enter, declared_again}
 use Rattle.cl_types.specs.Expressions.{judged, judged_place, judged_call, operation_notes, count_faults, constant_of}
 use Rattle.cl_types.specs.Formats.{directives_of}
-use Rattle.cl_types.specs.Statements.{Walked, in_order, in_context, in_loop, scoped_notes, maybe_notes, test_notes, initial_faults, initial_notes, form_notes, declarator_walked, variables_walked, change_notes, assign_notes, argument_faults, argument_notes, arguments_notes, print_parts, print_notes, value_return_faults, value_notes, return_notes, leave_notes, walked, block_walked}
+use Rattle.cl_types.specs.Statements.{Walked, in_order, in_context, in_loop, scoped_notes, maybe_notes, test_notes, size_kind, size_faults, size_notes, initial_faults, initial_notes, form_notes, declarator_walked, variables_walked, change_notes, assign_notes, argument_faults, argument_notes, arguments_notes, print_parts, print_notes, value_return_faults, value_notes, return_notes, leave_notes, walked, block_walked}
 use Rattle.cl_types.specs.Loops.{if_notes, while_notes, do_notes, for_notes}
-use Rattle.cl_types.specs.Items.{function_context, function_known, parameters_walked, body_walked, item_walked, items_walked, known_first}
+use Rattle.cl_types.specs.Items.{function_context, function_known, parameter_walked, parameters_walked, has_main, body_walked, item_walked, items_walked, known_first}
 use Rattle.cl_types.specs.Unit.{main_notes, unit_notes, faults}
 use Rattle.cl_types.specs.Fields.{Forms, expr_forms, place_forms}
 use Rattle.cl_types.specs.Gathered.{each, maybe_forms}
 use Rattle.cl_types.specs.Found.{onward, change_forms, assign_forms, initial_forms, variable_behind, declarator_forms, variables_forms, spanned_forms, printed_forms, anywhere, known_behind, stmt_forms, block_forms, item_forms, item_behind, field_forms}
 use Rattle.cl_types.specs.Adds.{alone_forms, maybe_stmt_forms, if_parts, while_parts, do_parts, for_parts}
-use Rattle.cl_types.specs.EachTyped.{EachTyped}
+use Rattle.cl_types.specs.EachTyped.{IsFound, HasType, EachTyped, EachNarrow}
 use Rattle.cl_types.proofs.Sentences as sentences
 use Rattle.cl_types.proofs.Stating as stating
-use Rattle.cl_types.proofs.Clean.{Clean, clean_split, clean_unit, each_append}
-use Rattle.cl_types.proofs.Welltyped.{Sound, sound_is}
+use Rattle.cl_types.proofs.Clean.{Clean, clean_unit, sites_in, sites_append, quiet_found, quiet_if, quiet_unless, few_unit}
+use Rattle.cl_types.proofs.Welltyped as parts
+use Rattle.cl_types.proofs.Welltyped.{Fine, Holds, Sound, holds_is, nothing}
 use Rattle.cl_types.proofs.Inductions.{every_expr, every_place, every_call, every_operation}
 
 -- ---- two parts
 
 both : (a b : List Note) (x y : Forms) → Sound a x → Sound b y → Sound (a ++ b) (x ++ y)
-both a b x y f g = λ (c : Clean (a ++ b)). let d = clean_split a b c in each_append x y (f d.0) (g d.1)
+both a b x y f g = parts.both (Unit {0}) a b x y (λ (p : Unit {0}) (q : Unit {0}). tt) f g
 
--- something is noted besides
-beside : (a b : List Note) (x : Forms) → Sound b x → Sound (a ++ b) x
-beside a b x g = λ (c : Clean (a ++ b)). g (clean_split a b c).1
+-- something is noted besides, which is no operation
+beside : (a b : List Note) (x : Forms) → sites_in a ≡ 0 → Sound b x → Sound (a ++ b) x
+beside a b x quiet g = parts.beside (Unit {0}) a b x quiet (λ (c : Clean a) (u : Unit {0}). tt) g
 
-before : (a b : List Note) (x : Forms) → Sound a x → Sound (a ++ b) x
-before a b x g = λ (c : Clean (a ++ b)). g (clean_split a b c).0
+before : (a b : List Note) (x : Forms) → sites_in b ≡ 0 → Sound a x → Sound (a ++ b) x
+before a b x quiet g = parts.before (Unit {0}) a b x quiet (λ (u : Unit {0}). tt) g
 
-nothing : (ns : List Note) → Sound ns []
-nothing ns = λ (c : Clean ns). tt
+sound_is : (ns ns' : List Note) (fs fs' : Forms) → ns ≡ ns' → fs ≡ fs' → Sound ns' fs' → Sound ns fs
+sound_is ns ns' fs fs' hn hf g = holds_is (Unit {0}) ns ns' fs fs' hn hf (λ (u : Unit {0}). tt) g
 
 sound_expr : (x : Expr) (known : Known) → Sound (judged x known).notes (expr_forms x known)
-sound_expr x known = λ (c : Clean (judged x known).notes). (every_expr x known c).1
+sound_expr x known = holds_is (Unit {0}) _ _ _ _ refl refl (λ (t : IsFound (judged x known).type). tt) (every_expr x known)
+
+sound_place : (x : Place) (known : Known) → Sound (judged_place x accesses.Write known).notes (place_forms x known)
+sound_place x known = holds_is (Unit {0}) _ _ _ _ refl refl (λ (t : IsFound (judged_place x accesses.Write known).type). tt) (every_place x accesses.Write known)
 
 -- ---- parts of statements
 
@@ -81,30 +93,38 @@ sound_change (changes.Set e) known = sound_expr e known
 sound_change (changes.Add e) known = sound_expr e known
 sound_change (changes.Subtract e) known = sound_expr e known
 sound_change (changes.Multiply e) known = sound_expr e known
-sound_change changes.Increment known = nothing []
-sound_change changes.Decrement known = nothing []
+sound_change changes.Increment known = nothing [] refl
+sound_change changes.Decrement known = nothing [] refl
 
 sound_assign : (x : Assign) (known : Known) → Sound (assign_notes known x) (assign_forms x known)
-sound_assign x known = both (judged_place x.place accesses.Write known).notes (change_notes known x.change) (place_forms x.place known) (change_forms x.change known) (every_place x.place accesses.Write known) (sound_change x.change known)
+sound_assign x known = both (judged_place x.place accesses.Write known).notes (change_notes known x.change) (place_forms x.place known) (change_forms x.change known) (sound_place x.place known) (sound_change x.change known)
 
 sound_initial : (reach : Reach) (t : TypeName) (x : Form) (known : Known) → Sound (form_notes reach t known x) (initial_forms x known)
-sound_initial reach t given.Bare known = nothing []
-sound_initial reach t (given.Array size) known = nothing (form_notes reach t known (given.Array size))
+sound_initial reach t given.Bare known = nothing [] refl
+sound_initial reach t (given.Array size) known = nothing (size_notes known size) (quiet size)
+  where
+    quiet : (x : Size) → sites_in (size_notes known x) ≡ 0
+    quiet (sizes.Number literal) = quiet_found (size_kind (plain_number literal.value)) literal.span.start
+    quiet (sizes.Name name) = quiet_found (size_faults (look_up name.bytes known)) name.span.start
 sound_initial reach t (given.Value x) known =
-    before (judged x.expr known).notes (found_all (initial_faults reach t (judged x.expr known).type (constant_of x.expr known)) x.span.start) (expr_forms x.expr known) (sound_expr x.expr known)
+    let ks = initial_faults reach t (judged x.expr known).type (constant_of x.expr known) in before (judged x.expr known).notes (found_all ks x.span.start) (expr_forms x.expr known) (quiet_found ks x.span.start) (sound_expr x.expr known)
+
+quiet_again : (x : Name) (known : Known) → sites_in (declared_again x known) ≡ 0
+quiet_again x known = quiet_if (is_declared_here x.bytes known) (record { place = x.span.start; kind = kinds.TwiceDeclared })
 
 sound_declarators : (reach : Reach) (t : TypeName) (ds : List Declarator) (known : Known) → Sound (in_order (map (declarator_walked reach t) ds) known).notes (onward declarator_forms (variable_behind t) ds known)
-sound_declarators reach t [] known = nothing []
+sound_declarators reach t [] known = nothing [] refl
 sound_declarators reach t (d ∷ ds) known =
     both (declared_again d.name known ++ form_notes reach t known d.form) (in_order (map (declarator_walked reach t) ds) (variable_behind t d known)).notes (initial_forms d.form known) (onward declarator_forms (variable_behind t) ds (variable_behind t d known))
-    (beside (declared_again d.name known) (form_notes reach t known d.form) (initial_forms d.form known) (sound_initial reach t d.form known)) (sound_declarators reach t ds (variable_behind t d known))
+    (beside (declared_again d.name known) (form_notes reach t known d.form) (initial_forms d.form known) (quiet_again d.name known) (sound_initial reach t d.form known)) (sound_declarators reach t ds (variable_behind t d known))
 
 sound_argument : (d : Option Directive) (x : Spanned) (known : Known) → Sound (argument_notes known d x) (expr_forms x.expr known)
 sound_argument None x known = sound_expr x.expr known
-sound_argument (Some d) x known = before (judged x.expr known).notes (found_all (argument_faults d (judged x.expr known).type) x.span.start) (expr_forms x.expr known) (sound_expr x.expr known)
+sound_argument (Some d) x known =
+    let ks = argument_faults d (judged x.expr known).type in before (judged x.expr known).notes (found_all ks x.span.start) (expr_forms x.expr known) (quiet_found ks x.span.start) (sound_expr x.expr known)
 
 sound_arguments : (ds : List Directive) (xs : List Spanned) (known : Known) → Sound (arguments_notes known ds xs) (printed_forms xs known)
-sound_arguments ds [] known = nothing []
+sound_arguments ds [] known = nothing [] refl
 sound_arguments [] (x ∷ xs) known = both (argument_notes known None x) (arguments_notes known [] xs) (expr_forms x.expr known) (printed_forms xs known) (sound_argument None x known) (sound_arguments [] xs known)
 sound_arguments (d ∷ ds) (x ∷ xs) known = both (argument_notes known (Some d) x) (arguments_notes known ds xs) (expr_forms x.expr known) (printed_forms xs known) (sound_argument (Some d) x known) (sound_arguments ds xs known)
 
@@ -112,15 +132,15 @@ sound_print : (x : Print) (known : Known) → Sound (print_notes known x) (print
 sound_print x known = by (directives_of x.format.bytes)
   where
     by : (ds : Option (List Directive)) → Sound (print_parts known ds x) (printed_forms x.arguments known)
-    by None = λ (c : Clean (print_parts known None x)). absurd c
-    by (Some ds) = beside (found_all (count_faults (length ds) (length x.arguments)) x.span.start) (arguments_notes known ds x.arguments) (printed_forms x.arguments known) (sound_arguments ds x.arguments known)
+    by None = let rest = sound_arguments [] x.arguments known in record { count = rest.count; clean = λ (c : Clean (print_parts known None x)). absurd c }
+    by (Some ds) = beside (found_all (count_faults (length ds) (length x.arguments)) x.span.start) (arguments_notes known ds x.arguments) (printed_forms x.arguments known) (quiet_found (count_faults (length ds) (length x.arguments)) x.span.start) (sound_arguments ds x.arguments known)
 
 sound_value : (context : Context) (place : ℕ) (x : Option Expr) (known : Known) → Sound (value_notes context place known x) (maybe_forms x known)
-sound_value context place None known = nothing []
-sound_value context place (Some e) known = beside (found_all (value_return_faults context.result) place) (judged e known).notes (expr_forms e known) (sound_expr e known)
+sound_value context place None known = nothing [] refl
+sound_value context place (Some e) known = beside (found_all (value_return_faults context.result) place) (judged e known).notes (expr_forms e known) (quiet_found (value_return_faults context.result) place) (sound_expr e known)
 
 sound_test : (x : Option Expr) (known : Known) → Sound (test_notes x known) (maybe_forms x known)
-sound_test None known = nothing []
+sound_test None known = nothing [] refl
 sound_test (Some e) known = sound_expr e known
 
 -- ---- what is known behind a statement is the same whatever stands round it
@@ -212,14 +232,14 @@ scoped_good : (x : SuchStmt) (context : Context) (known : Known) → Sound (scop
 scoped_good x context known = x.1 context (enter known)
 
 maybe_good : (x : Option SuchStmt) (context : Context) (known : Known) → Sound (maybe_notes (option_map walked (option_map (λ z. z.0) x)) context known) (maybe_stmt_forms (option_map (λ z. z.0) x) known)
-maybe_good None context known = nothing []
+maybe_good None context known = nothing [] refl
 maybe_good (Some x) context known = scoped_good x context known
 
 good_block : (x : Block) → GoodBlock x → GoodStmt (stmts.Block x)
 good_block x g context known = stmt_is (stmts.Block x) context known _ _ (sentences.of_block x context known) (stating.of_block x known) (g context (enter known))
 
 good_empty : (x : Span) → GoodStmt (stmts.Empty x)
-good_empty x context known = stmt_is (stmts.Empty x) context known _ _ (sentences.of_empty x context known) (stating.of_empty x known) (nothing [])
+good_empty x context known = stmt_is (stmts.Empty x) context known _ _ (sentences.of_empty x context known) (stating.of_empty x known) (nothing [] refl)
 
 good_variables : (x : Variables) → GoodStmt (stmts.Variables x)
 good_variables x context known = stmt_is (stmts.Variables x) context known _ _ (sentences.of_variables x context known) (stating.of_variables x known) (sound_declarators reaches.Local x.type_name x.declarators known)
@@ -228,7 +248,7 @@ good_assign : (x : Assign) → GoodStmt (stmts.Assign x)
 good_assign x context known = stmt_is (stmts.Assign x) context known _ _ (sentences.of_assign x context known) (stating.of_assign x known) (sound_assign x known)
 
 good_call : (x : Call) → GoodStmt (stmts.Call x)
-good_call x context known = stmt_is (stmts.Call x) context known _ _ (sentences.of_call x context known) (stating.of_call x known) (every_call x purposes.Statement known)
+good_call x context known = stmt_is (stmts.Call x) context known _ _ (sentences.of_call x context known) (stating.of_call x known) (holds_is (Unit {0}) _ _ _ _ refl refl (λ (u : Unit {0}). tt) (every_call x purposes.Statement known))
 
 good_operation : (x : Operation) → GoodStmt (stmts.Operation x)
 good_operation x context known = stmt_is (stmts.Operation x) context known _ _ (sentences.of_operation x context known) (stating.of_operation x known) (every_operation x known)
@@ -249,10 +269,10 @@ good_for : (x : For) → GoodFor x → GoodStmt (stmts.For x)
 good_for x g context known = stmt_is (stmts.For x) context known _ _ (sentences.of_for x context known) (stating.of_for x known) (g context known)
 
 good_break : (x : Span) → GoodStmt (stmts.Break x)
-good_break x context known = stmt_is (stmts.Break x) context known _ _ (sentences.of_break x context known) (stating.of_break x known) (nothing (leave_notes context x.start))
+good_break x context known = stmt_is (stmts.Break x) context known _ _ (sentences.of_break x context known) (stating.of_break x known) (nothing (leave_notes context x.start) (quiet_unless context.is_in_loop (record { place = x.start; kind = kinds.NoLoop })))
 
 good_continue : (x : Span) → GoodStmt (stmts.Continue x)
-good_continue x context known = stmt_is (stmts.Continue x) context known _ _ (sentences.of_continue x context known) (stating.of_continue x known) (nothing (leave_notes context x.start))
+good_continue x context known = stmt_is (stmts.Continue x) context known _ _ (sentences.of_continue x context known) (stating.of_continue x known) (nothing (leave_notes context x.start) (quiet_unless context.is_in_loop (record { place = x.start; kind = kinds.NoLoop })))
 
 good_return : (x : Return) → GoodStmt (stmts.Return x)
 good_return x context known = stmt_is (stmts.Return x) context known _ _ (sentences.of_return x context known) (stating.of_return x known) (sound_value context x.span.start x.value known)
@@ -274,7 +294,7 @@ stmt_step (Stmt-F.Continue x) = subst GoodStmt (sym (stmts.rolls-Continue x)) (g
 stmt_step (Stmt-F.Return x) = subst GoodStmt (sym (stmts.rolls-Return x)) (good_return x)
 
 statements_good : (ys : List SuchStmt) (context : Context) (known : Known) → Sound (in_order (map (λ y. in_context context (walked y)) (map (λ z. z.0) ys)) known).notes (onward stmt_forms known_behind (map (λ z. z.0) ys) known)
-statements_good [] context known = nothing []
+statements_good [] context known = nothing [] refl
 statements_good (y ∷ ys) context known =
     let rest = map (λ x. in_context context (walked x)) (map (λ z. z.0) ys) in
     let P : Known → Type 0 = λ k. Sound (in_order rest k).notes (onward stmt_forms known_behind (map (λ z. z.0) ys) (known_behind y.0 known)) in
@@ -341,25 +361,54 @@ every_block = s.ind-Block GoodStmt GoodBlock GoodDo GoodFor GoodIf GoodWhile (λ
 
 -- ---- whole texts
 
+quiet_parameters : (ps : List Parameter) (known : Known) → sites_in (parameters_walked ps known).notes ≡ 0
+quiet_parameters [] known = refl
+quiet_parameters (p ∷ ps) known =
+    let next = (parameter_walked p known).known in
+    let first = quiet_again p.name known in
+    let rest = quiet_parameters ps next in
+    let all = sites_append (declared_again p.name known) (parameters_walked ps next).notes in omega (arith, first, rest, all)
+
 function_good : (f : Function) (known : Known) → Sound (body_walked f known).notes (block_forms f.body (parameters_walked f.parameters known).known)
 function_good f known =
     let inner = (parameters_walked f.parameters known).known in
-    beside (parameters_walked f.parameters known).notes (block_walked f.body (function_context f) inner).notes (block_forms f.body inner) (every_block f.body (function_context f) inner)
+    beside (parameters_walked f.parameters known).notes (block_walked f.body (function_context f) inner).notes (block_forms f.body inner) (quiet_parameters f.parameters known) (every_block f.body (function_context f) inner)
 
 item_good : (x : Item) (known : Known) → Sound (item_walked x known).notes (item_forms x known)
-item_good (items.Define d) known = nothing (declared_again d.name known)
+item_good (items.Define d) known = nothing (declared_again d.name known) (quiet_again d.name known)
 item_good (items.Variables v) known = sound_declarators reaches.Global v.type_name v.declarators known
 item_good (items.Function f) known =
     let inner = enter (function_known f known) in
-    beside (declared_again f.name known) (body_walked f inner).notes (block_forms f.body (parameters_walked f.parameters inner).known) (function_good f inner)
+    let forms = block_forms f.body (parameters_walked f.parameters inner).known in
+    let h : Sound (declared_again f.name known ++ (body_walked f inner).notes) forms = beside (declared_again f.name known) (body_walked f inner).notes forms (quiet_again f.name known) (function_good f inner) in
+    record { count = h.count; clean = λ (c : Clean (declared_again f.name known ++ (body_walked f inner).notes)). h.clean c }
 
 items_good : (xs : List Item) (known : Known) → Sound (items_walked xs known).notes (onward item_forms item_behind xs known)
-items_good [] known = nothing []
+items_good [] known = nothing [] refl
 items_good (x ∷ xs) known =
     both (item_walked x known).notes (items_walked xs (item_behind x known)).notes (item_forms x known) (onward item_forms item_behind xs (item_behind x known)) (item_good x known) (items_good xs (item_behind x known))
 
-pub unit_typed : (xs : List Item) → faults xs ≡ [] → EachTyped (field_forms xs)
-unit_typed xs h = items_good xs (known_first xs) (clean_split (main_notes xs) (items_walked xs (known_first xs)).notes (clean_unit xs h)).1
+unit_good : (xs : List Item) → Sound (unit_notes xs) (field_forms xs)
+unit_good xs = beside (main_notes xs) (items_walked xs (known_first xs)).notes (field_forms xs) (quiet_unless (has_main xs) (record { place = 0; kind = kinds.NoMain })) (items_good xs (known_first xs))
 
-pub forms_typed : (xs : List Item) (fs : Forms) → faults xs ≡ [] → fs ≡ field_forms xs → EachTyped fs
-forms_typed xs fs h is = subst EachTyped (sym is) (unit_typed xs h)
+all_typed : (fs : Forms) → AllByRecursion Fine fs → EachTyped fs
+all_typed [] h = tt
+all_typed (own ∷ fs) h = (h.0.0, all_typed fs h.1)
+
+all_narrow : (fs : Forms) → AllByRecursion Fine fs → EachNarrow fs
+all_narrow [] h = tt
+all_narrow (own ∷ fs) h = (h.0.1, all_narrow fs h.1)
+
+pub unit_typed : (xs : List Item) → faults xs ≡ [] → EachTyped (field_forms xs)
+unit_typed xs h = all_typed (field_forms xs) ((unit_good xs).clean (clean_unit xs h)).1
+
+pub unit_narrow : (xs : List Item) → faults xs ≡ [] → EachNarrow (field_forms xs)
+unit_narrow xs h = all_narrow (field_forms xs) ((unit_good xs).clean (clean_unit xs h)).1
+
+pub unit_few : (xs : List Item) → faults xs ≡ [] → length (field_forms xs) ≤ 1024
+unit_few xs h = let few = few_unit xs h in let count = (unit_good xs).count in omega (arith, few, count)
+
+-- what holds of the forms holds of those that are told
+pub of_told : {E : Type 0} (r : Result Forms E) (xs : List Item) (Q : Forms → Type 0) → IfOk r (λ fs. fs ≡ field_forms xs) → Q (field_forms xs) → IfOk r Q
+of_told (Ok fs) xs Q h q = subst Q (sym h) q
+of_told (Err e) xs Q h q = tt

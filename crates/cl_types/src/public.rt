@@ -58,8 +58,8 @@ impl Typed {
     ghost use Rattle.std.specs.Prelude.{◌≡◌, []};
     ghost use Rattle.cl_types.specs.Unit.{faults};
     ghost use Rattle.cl_types.specs.Found.{field_forms};
-    ghost use Rattle.cl_types.specs.EachTyped.{EachTyped};
-    ghost use Rattle.std.specs.Prelude.{IfOk};
+    ghost use Rattle.cl_types.specs.EachTyped.{EachTyped, EachNarrow};
+    ghost use Rattle.std.specs.Prelude.{IfOk, length, ◌≤◌};
 
     /// The tree. It takes no memory.
     pub fn unit(&self) -> &Unit
@@ -72,10 +72,11 @@ impl Typed {
     /// What the fields of each operation are: one list for each operation, in the order of the text, and in it one
     /// form for each of its fields, in order. An operation in a field of another stands behind it. `AllocError`
     /// comes where the allocator refused memory.
-    #[tactic(auto, using(crate::proofs::Faultless::forms_typed))]
     pub fn field_forms(&self, alloc: Global) -> Result<Items<Items<FieldForm>>, AllocError>
         ensures forms { IfOk result (λ forms. forms ≡ field_forms self.now.items) }
         ensures typed { IfOk result (λ forms. EachTyped forms) }
+        ensures narrow { IfOk result (λ forms. EachNarrow forms) }
+        ensures few { IfOk result (λ forms. length forms ≤ 1024) }
     {
         field_forms(self.tree.items.as_slice(), alloc)
     }
