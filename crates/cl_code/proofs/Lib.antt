@@ -5,3 +5,5 @@ pub mod LawProofs
 pub mod Keeping
 pub mod Step
 pub mod Fine
+pub mod Holds
+pub mod Effects
