@@ -82,6 +82,12 @@ length_pushed : (ns : List ℤ) (stack : Stack) → length (pushed ns stack) ≡
 length_pushed [] stack = omega arith
 length_pushed (n ∷ ns) stack = omega (arith, length_pushed ns (n ∷ stack))
 
+-- it jumps to such addresses
+abbrev pub JumpsBy : (ℕ → Type 0) → Instr → Type 0
+JumpsBy Aims (Jump to) = Aims to
+JumpsBy Aims (JumpZero to) = Aims to
+JumpsBy Aims _ = Unit {0}
+
 -- `L` is told where a cell may be missing, and then nothing of how many there are
 module _ (p : PlainProgram) (depth : ℕ) (L : Type 0) (R : PlainRequest → Type 0) (f : PlainFunction) (Aims : ℕ → Type 0) (next h : ℕ) where
   abbrev Fit : Cells → Type 0
@@ -244,14 +250,8 @@ module _ (p : PlainProgram) (depth : ℕ) (L : Type 0) (R : PlainRequest → Typ
 
   -- ---- every instruction
 
-  -- where it jumps
-  abbrev pub Jumps : Instr → Type 0
-  Jumps (Jump to) = Aims to
-  Jumps (JumpZero to) = Aims to
-  Jumps _ = Unit {0}
-
   module _ (a : ℕ) (formats : (k : ℕ) → k < length p.formats → rule_4 p k ≡ true) (sites : (number : ℕ) (site : PlainSignature) → slice_get p.sites number ≡ Some site → SiteAsks p depth R number site) where
-    pub leads : (i : Instr) (stack : Stack) → instruction_reaches p a f i ≡ true → pops p i ≤ length stack → height_behind p i (length stack) ≡ h → (may_end i ≡ false → Aims next) → Jumps i → Right (effect p depth i stack)
+    pub leads : (i : Instr) (stack : Stack) → instruction_reaches p a f i ≡ true → pops p i ≤ length stack → height_behind p i (length stack) ≡ h → (may_end i ≡ false → Aims next) → JumpsBy Aims i → Right (effect p depth i stack)
     unfolding effect
     leads (PushInt n) stack reach enough e on there = pushes_one n stack e (on refl)
     leads (PushLong n) stack reach enough e on there = pushes_one n stack e (on refl)

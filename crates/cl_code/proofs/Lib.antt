@@ -7,3 +7,5 @@ pub mod Step
 pub mod Fine
 pub mod Holds
 pub mod Effects
+pub mod Requests
+pub mod Flow

@@ -9,3 +9,4 @@ pub mod Machine
 pub mod Process
 pub mod Laws
 pub mod Starts
+pub mod Requests
