@@ -9,3 +9,4 @@ pub mod Holds
 pub mod Effects
 pub mod Requests
 pub mod Flow
+pub mod Safe
