@@ -10,3 +10,4 @@ pub mod Effects
 pub mod Requests
 pub mod Flow
 pub mod Safe
+pub mod Processes

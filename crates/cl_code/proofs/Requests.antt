@@ -44,7 +44,7 @@ right false y h = absurd cc
 
 -- ---- numbers as values
 
-then_ok : {A B : Type 0} (c : Checked A) (go : A → Checked B) (b : B) → and_then c go ≡ Ok b → (a : A) × (c ≡ Ok a) × (go a ≡ Ok b)
+pub then_ok : {A B : Type 0} (c : Checked A) (go : A → Checked B) (b : B) → and_then c go ≡ Ok b → (a : A) × (c ≡ Ok a) × (go a ≡ Ok b)
 then_ok (Ok a) go b e = (a, refl, e)
 then_ok (Err t) go b e = absurd cc
 
@@ -66,7 +66,7 @@ of_type types.Text n = tt
 pub value_typed : (type : FieldType) (n : ℤ) (v : Value) → as_value type n ≡ Ok v → same_type type (type_of v) ≡ true
 value_typed type n v e = subst (OfType type) e (of_type type n)
 
-same_Ok : {A : Type 0} (a b : A) → ◌≡◌ {A = Checked A} (Ok a) (Ok b) → a ≡ b
+pub same_Ok : {A : Type 0} (a b : A) → ◌≡◌ {A = Checked A} (Ok a) (Ok b) → a ≡ b
 same_Ok a b e = cc
 
 values_typed : (all : List FieldType) (ns : List ℤ) (vs : List Value) → length all ≤ length ns → as_values all ns ≡ Ok vs → all_beside has_type all vs ≡ true
@@ -171,7 +171,7 @@ module _ (p : PlainProgram) where
 
 -- ---- marks with their calls
 
-beside_marks : {B : Type 0} (test : Mark → B → Bool) (all : List Mark) (calls : List (Option ℕ)) (bs : List B) → all_beside (λ (place : Place). test place.mark) (places all calls) bs ≡ all_beside test all bs
+pub beside_marks : {B : Type 0} (test : Mark → B → Bool) (all : List Mark) (calls : List (Option ℕ)) (bs : List B) → all_beside (λ (place : Place). test place.mark) (places all calls) bs ≡ all_beside test all bs
 beside_marks test [] calls [] = refl
 beside_marks test [] calls (b ∷ bs) = refl
 beside_marks test (mark ∷ all) [] [] = refl

@@ -47,7 +47,7 @@ Ended p r = ((n : ℤ) × (r.0 ≡ Some n)) × GlobalsFit p r.1
 
 -- ---- cells
 
-frame_fits : (p : PlainProgram) (f : PlainFunction) (cells : Cells) (to : List ℤ) → length cells.globals ≡ length p.globals → length to ≡ frame_size f → CellsFit p f (with_cells Local to cells)
+pub frame_fits : (p : PlainProgram) (f : PlainFunction) (cells : Cells) (to : List ℤ) → length cells.globals ≡ length p.globals → length to ≡ frame_size f → CellsFit p f (with_cells Local to cells)
 frame_fits p f cells to globals e Local = e
 frame_fits p f cells to globals e Global = globals
 
@@ -81,7 +81,7 @@ module _ (p : PlainProgram) (rules : keeps_rules p ≡ true) (typed : all_below 
   Good frames a stack s = Holds R (Ended p) (machine p depth frames a stack s)
 
   -- where so many ticks are left
-  pub GoodAt : ℕ → Type 0
+  GoodAt : ℕ → Type 0
   GoodAt n = (frames : List Frame) (f : PlainFunction) (a : ℕ) (stack : Stack) (s : State Cells) → s.ticks ≡ n → At p f a (length stack) → CellsFit p f s.variables → AllWait p frames → Good frames a stack s
 
   module _ (n : ℕ) (behind : (m : ℕ) → n ≡ suc m → GoodAt m) where
@@ -176,6 +176,10 @@ module _ (p : PlainProgram) (rules : keeps_rules p ≡ true) (typed : all_below 
     unfolding GoodAt Forward
     good frames f a stack s e at fit wait = forward frames wait (leaves_well frames wait) (length p.code) f a stack s (omega arith) e at fit
 
-  pub all_good : (n : ℕ) → GoodAt n
+  all_good : (n : ℕ) → GoodAt n
   all_good zero = good zero (λ m e. absurd (omega (arith, e)))
   all_good (suc n) = good (suc n) (λ m e. let same : n ≡ m = omega (arith, e) in subst GoodAt same (all_good n))
+
+  pub machine_good : (f : PlainFunction) (a : ℕ) (stack : Stack) (s : State Cells) → At p f a (length stack) → CellsFit p f s.variables → Holds R (Ended p) (machine p depth [] a stack s)
+  unfolding GoodAt
+  machine_good f a stack s at fit = all_good s.ticks [] f a stack s refl at fit tt
