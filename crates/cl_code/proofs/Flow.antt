@@ -177,6 +177,14 @@ module _ (p : PlainProgram) (rules : keeps_rules p ≡ true) where
   on_jump f a height at (JumpZero to) here = jumps_from f a height at (JumpZero to) here to (reaches f a height at (JumpZero to) here) (left _ _ (right (succeeds_with p f (height_behind p (JumpZero to) height) (suc a)) _ (succeed f a height at (JumpZero to) here))) (is_fine p rules a (JumpZero to) here)
   on_jump f a height at i here = tt
 
+  owned : (a : ℕ) (i : Instr) (o : Option PlainFunction) → slice_get p.code a ≡ Some i → has (λ f. has (instruction_reaches p a f) (slice_get p.code a)) o ≡ true → (f : PlainFunction) × (instruction_reaches p a f i ≡ true)
+  owned a i None here h = absurd cc
+  owned a i (Some f) here h = (f, has_of (instruction_reaches p a f) (slice_get p.code a) i here h)
+
+  -- each instruction of the program is of some function, and reaches what is there
+  pub reaches_by : (a : ℕ) (i : Instr) → slice_get p.code a ≡ Some i → (f : PlainFunction) × (instruction_reaches p a f i ≡ true)
+  reaches_by a i here = owned a i (function_at p a) here (rule_6_at a (slice_get_within p.code a i here))
+
   -- ---- functions
 
   pub function_right : (k : ℕ) (f : PlainFunction) → slice_get p.functions k ≡ Some f → function_is_right p k f ≡ true

@@ -11,3 +11,4 @@ pub mod Requests
 pub mod Flow
 pub mod Safe
 pub mod Processes
+pub mod Heights

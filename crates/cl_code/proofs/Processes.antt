@@ -30,6 +30,7 @@ use Rattle.cl_code.specs.Rules.{frame_size, has, has_no_parameters, is_eval, is_
 use Rattle.cl_code.specs.Valid.{site_is_typed, Valid}
 use Rattle.cl_code.specs.Starts.{has_type, takes_and_gives, calls_there, part_fits, live_fits, start_fits}
 use Rattle.cl_code.specs.Requests.{depth_of, IsRightRequest}
+use Rattle.cl_code.specs.Laws.{IsNeverWrong, AsksRight, LandsRight}
 use Rattle.cl_code.proofs.Holds.{Holds, then_holds, holds_more, after_checked, at_checked}
 use Rattle.cl_code.proofs.Requests.{then_ok, same_Ok, value_typed, beside_marks}
 use Rattle.cl_code.proofs.Flow.{entered_at, parameters_fit}
@@ -233,3 +234,12 @@ sound R P (Asks q rest) out (r ∷ rs) h = sound_if R P (fits q.ask r) out _ (λ
 
 pub demand_sound : (p : PlainProgram) → Valid p → (ticks : ℕ) (start : PlainStart) → start_fits p start ≡ true → (replies : List PlainReply) → Sound (λ q. IsRightRequest p (depth_of start) q) (Lands p start) (code_demand p ticks start replies).outcome
 demand_sound p valid ticks start fit replies = sound _ _ (process p start (begun p ticks)) [] replies (process_good p valid.rules valid.typed start fit ticks)
+
+pub never_wrong : IsNeverWrong
+never_wrong p valid ticks start fit replies e = subst (Sound (λ q. IsRightRequest p (depth_of start) q) (Lands p start)) e (demand_sound p valid ticks start fit replies)
+
+pub asks_right : AsksRight
+asks_right p valid ticks start fit replies q e = subst (Sound (λ r. IsRightRequest p (depth_of start) r) (Lands p start)) e (demand_sound p valid ticks start fit replies)
+
+pub lands_right : LandsRight
+lands_right p valid ticks site live depth fit replies values e = subst (Sound (λ q. IsRightRequest p depth q) (Lands p (Lives site live depth))) e (demand_sound p valid ticks (Lives site live depth) fit replies)

@@ -58,7 +58,7 @@ module _ (p : PlainProgram) (rules : keeps_rules p ≡ true) (typed : all_below 
   abbrev R : PlainRequest → Type 0
   R q = IsRightRequest p depth q
 
-  sites : (number : ℕ) (site : PlainSignature) → slice_get p.sites number ≡ Some site → SiteAsks p depth (IsRightRequest p depth) number site
+  pub sites : (number : ℕ) (site : PlainSignature) → slice_get p.sites number ≡ Some site → SiteAsks p depth (IsRightRequest p depth) number site
   sites number site there =
       let lt = slice_get_within p.sites number site there in
       site_asks p depth number site there
