@@ -79,9 +79,9 @@ pub record At (p : PlainProgram) (f : PlainFunction) (a height : ℕ) : Type 0 w
   pub height_is : slice_get p.heights a ≡ Some height
   pub owner : function_at p a ≡ Some f
 
--- such an address, and one that isn't behind `a` has a tick
+-- such an address, which has a tick where it isn't behind `a`, and a height that the function admits
 abbrev pub Leaps : PlainProgram → PlainFunction → ℕ → ℕ → ℕ → Type 0
-Leaps p f a height to = At p f to height × Aims p.code a to
+Leaps p f a height to = At p f to height × Aims p.code a to × (height ≤ f.stack)
 
 pub at_height : (p : PlainProgram) (f : PlainFunction) (a h k : ℕ) → h ≡ k → At p f a h → At p f a k
 at_height p f a h k e at = subst (At p f a) e at
@@ -150,14 +150,16 @@ module _ (p : PlainProgram) (rules : keeps_rules p ≡ true) where
     follows_on e = not-true (is_last p a) (or_other (may_end i) _ (left _ _ end_right) e)
 
     leap : (to : ℕ) → to < length p.code → same_function p a to ≡ true → succeeds_with p f (height_behind p i height) to ≡ true → Aims p.code a to → Leaps p f a (height_behind p i height) to
-    leap to lt same with aims = (
-      record {
-        within = lt;
-        height_is = has_height (slice_get p.heights to) (height_behind p i height) (left _ _ (subst (λ t. (if t then has (λ h. h == height_behind p i height) (slice_get p.heights to) && nat_le (height_behind p i height) f.stack else true) ≡ true) (lt-ltb to (length p.code) lt) with));
-        owner = ap (λ n. slice_get p.functions (n - 1)) (sym (eqb-true (begun_by p.functions a) (begun_by p.functions to) same)) ∙ at.owner;
-      },
-      aims,
-    )
+    leap to lt same with aims =
+        let there : has (λ h. h == height_behind p i height) (slice_get p.heights to) && nat_le (height_behind p i height) f.stack ≡ true = subst (λ t. (if t then has (λ h. h == height_behind p i height) (slice_get p.heights to) && nat_le (height_behind p i height) f.stack else true) ≡ true) (lt-ltb to (length p.code) lt) with in (
+          record {
+            within = lt;
+            height_is = has_height (slice_get p.heights to) (height_behind p i height) (left _ _ there);
+            owner = ap (λ n. slice_get p.functions (n - 1)) (sym (eqb-true (begun_by p.functions a) (begun_by p.functions to) same)) ∙ at.owner;
+          },
+          aims,
+          leb-true (height_behind p i height) f.stack (right (has (λ h. h == height_behind p i height) (slice_get p.heights to)) _ there),
+        )
 
     pub on_next : may_end i ≡ false → Leaps p f a (height_behind p i height) (suc a)
     on_next e =

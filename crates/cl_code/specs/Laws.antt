@@ -1,17 +1,21 @@
 -- What holds of the code of every program, and of every valid program. (This project.)
-use Rattle.std.specs.Prelude.{◌≡◌, ◌⊎◌, ℕ, ◌<◌, ◌≤◌, List, length, slice_get, Some, IsTrue}
+use Rattle.std.specs.Prelude.{◌≡◌, ◌⊎◌, ℕ, suc, ◌<◌, ◌≤◌, List, length, slice_get, Some, IsTrue}
 use Rattle.cl_value.specs.declared.value.Value.{Value}
 use Rattle.cl_value.specs.Plain.{PlainPart, PlainRequest, PlainReply, PlainStart, Lives, Land}
 use Rattle.cl_model.specs.Demand.{Wants, Finishes}
+use Rattle.cl_model.specs.Doing.{◌>>=◌}
 use Rattle.cl_model.specs.Laws.{AreDemands}
 use Rattle.cl_sig.specs.Instances.{is_of_its_site}
-use Rattle.cl_code.specs.Plain.{PlainProgram}
-use Rattle.cl_code.specs.Reach.{same_function}
+use Rattle.cl_code.specs.Plain.{PlainFunction, PlainProgram}
+use Rattle.cl_code.specs.Reach.{same_function, function_at}
 use Rattle.cl_code.specs.Valid.{Valid}
 use Rattle.cl_code.specs.Starts.{start_fits}
 use Rattle.cl_code.specs.Requests.{depth_of, IsRightRequest}
 use Rattle.cl_code.specs.Process.{Goes, Wrong, code_demand, demands}
+use Rattle.cl_code.specs.Machine.{Frame, Stack, effect, machine}
+use Rattle.cl_code.specs.Following.{follows}
 use Rattle.cl_code.specs.Positions.{Position, Reached}
+use Rattle.cl_code.specs.declared.instr.Instr.{Instr}
 use Rattle.cl_code.specs.declared.instr.Instr.TheVariants.{Jump, JumpZero, Tick}
 
 -- ---- of every program
@@ -48,3 +52,13 @@ pub record IsRightJump (p : PlainProgram) (here to : ℕ) : Type 0 where
 
 abbrev pub JumpsRight : Type 0
 JumpsRight = (p : PlainProgram) → Valid p → (here to : ℕ) → (slice_get p.code here ≡ Some (Jump to)) ⊎ (slice_get p.code here ≡ Some (JumpZero to)) → IsRightJump p here to
+
+-- wherever the machine comes, the stack is at most as high as the function says
+abbrev pub StacksAreLow : Type 0
+StacksAreLow = (p : PlainProgram) → Valid p → (depth : ℕ) (x : Position) → Reached p depth x → (f : PlainFunction) → function_at p x.place ≡ Some f → length x.stack ≤ f.stack
+
+-- at each instruction the machine does what the instruction does, and goes on as this leads
+abbrev pub GoesByInstructions : Type 0
+GoesByInstructions =
+    (p : PlainProgram) → Valid p → (depth : ℕ) (frames : List Frame) (a : ℕ) (i : Instr) → slice_get p.code a ≡ Some i → (stack : Stack) →
+    machine p depth frames a stack ≡ effect p depth i stack >>= follows p depth frames (suc a)

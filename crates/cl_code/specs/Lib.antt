@@ -7,6 +7,7 @@ pub mod Valid
 pub mod Arithmetic
 pub mod Machine
 pub mod Process
+pub mod Following
 pub mod Positions
 pub mod Laws
 pub mod Starts
