@@ -13,18 +13,7 @@ use Rattle.cl_code.specs.declared.instr.Instr.TheVariants.{Jump, JumpZero, Retur
 use Rattle.cl_code.proofs.Fine.{below, is_fine}
 use Rattle.cl_code.proofs.Keeping.{Aims}
 use Rattle.cl_code.proofs.Effects.{JumpsBy}
-
-left : (x y : Bool) → (x && y) ≡ true → x ≡ true
-left true y h = refl
-left false y h = h
-
-right : (x y : Bool) → (x && y) ≡ true → y ≡ true
-right true y h = h
-right false y h = absurd cc
-
-or_other : (x y : Bool) → (x || y) ≡ true → x ≡ false → y ≡ true
-or_other true y h e = absurd cc
-or_other false y h e = h
+use Rattle.cl_code.proofs.Tests.{left, right, other, has_of}
 
 -- ---- what is there
 
@@ -32,9 +21,6 @@ pub some_of : {A : Type 0} (xs : List A) (k : ℕ) → k < length xs → (x : A)
 some_of [] k lt = absurd (omega (arith, lt))
 some_of (x ∷ xs) zero lt = (x, refl)
 some_of (x ∷ xs) (suc k) lt = some_of xs k (omega (arith, lt))
-
-pub has_of : {A : Type 0} (test : A → Bool) (o : Option A) (x : A) → o ≡ Some x → has test o ≡ true → test x ≡ true
-has_of test o x e h = subst (λ found. has test found ≡ true) e h
 
 has_height : (o : Option ℕ) (height : ℕ) → has (λ h. h == height) o ≡ true → o ≡ Some height
 has_height None height h = absurd cc
@@ -141,13 +127,13 @@ module _ (p : PlainProgram) (rules : keeps_rules p ≡ true) where
     succeed = right (nat_le (pops p i) height) _ (right (not (a == f.entry) || height == 0) _ height_right)
 
     pub at_entry : a ≡ f.entry → height ≡ 0
-    at_entry e = eqb-true height 0 (or_other (not (a == f.entry)) (height == 0) (left _ _ height_right) (ap not (eq-eqb a f.entry e)))
+    at_entry e = eqb-true height 0 (other (not (a == f.entry)) (height == 0) (left _ _ height_right) (ap not (eq-eqb a f.entry e)))
 
     end_right : (may_end i || not (is_last p a)) && has (returns_one i) (slice_get p.heights a) ≡ true
     end_right = at_holds a (λ g j. (may_end j || not (is_last p a)) && has (returns_one j) (slice_get p.heights a)) f i at.owner here (rule_8_at a at.within)
 
     follows_on : may_end i ≡ false → is_last p a ≡ false
-    follows_on e = not-true (is_last p a) (or_other (may_end i) _ (left _ _ end_right) e)
+    follows_on e = not-true (is_last p a) (other (may_end i) _ (left _ _ end_right) e)
 
     leap : (to : ℕ) → to < length p.code → same_function p a to ≡ true → succeeds_with p f (height_behind p i height) to ≡ true → Aims p.code a to → Leaps p f a (height_behind p i height) to
     leap to lt same with aims =

@@ -1,6 +1,6 @@
 -- In a valid program the heights of the stack are met wherever the machine comes, and jumps are right.
-use Rattle.std.proofs.Common.{arith, ◌≤◌, ◌≡◌, ◌∙◌, ℕ, suc, Bool, true, false, List, [], ◌∷◌, length, Option, Some, None, refl, sym, subst, inl, inr, ltb-true}
-use Rattle.std.specs.Prelude.{◌&&◌, ℤ, slice_get, nat_lt}
+use Rattle.std.proofs.Common.{arith, ◌≤◌, ◌≡◌, ◌∙◌, ℕ, suc, true, List, [], ◌∷◌, length, Option, Some, None, refl, sym, subst, inl, inr, ltb-true}
+use Rattle.std.specs.Prelude.{ℤ, slice_get, nat_lt}
 use Rattle.std.proofs.lemmas.Option.{same_Some}
 use Rattle.cl_value.specs.Plain.{PlainRequest}
 use Rattle.cl_model.specs.Doing.{Steps, Gives, Prints, Asks, Stops, State}
@@ -19,14 +19,7 @@ use Rattle.cl_code.proofs.Flow.{At, Leaps, at_height, rule_4_at, reaches, enough
 use Rattle.cl_code.proofs.Safe.{sites}
 use Rattle.cl_code.proofs.Fine.{is_fine, steps}
 use Rattle.cl_code.proofs.Keeping.{Aims}
-
-left : (x y : Bool) → (x && y) ≡ true → x ≡ true
-left true y h = refl
-left false y h = h
-
-right : (x y : Bool) → (x && y) ≡ true → y ≡ true
-right true y h = h
-right false y h = absurd cc
+use Rattle.cl_code.proofs.Tests.{left, right}
 
 -- what holds of all that steps may give holds of this
 may_hold : {A : Type 0} (R : PlainRequest → Type 0) (P : A × State Cells → Type 0) (d : Steps (A × State Cells)) (a : A) → Holds R P d → MayGive d a → (r : A × State Cells) × P r × (r.0 ≡ a)

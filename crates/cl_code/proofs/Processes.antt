@@ -1,6 +1,6 @@
 -- Each process of a valid program, from a start that fits: it is never wrong, asks for what its sites say, and finishes with a tuple of its `eval`.
 use Rattle.std.proofs.Common.{◌≡◌, ℕ, zero, suc, ◌+◌, ◌≤◌, Bool, true, false, List, [], ◌∷◌, ◌++◌, length, map, Option, Some, None, refl, sym, ap, ◌∙◌, subst, arith, append_assoc, append-nil, eqb-true}
-use Rattle.std.specs.Prelude.{◌&&◌, ◌==◌, nat_le, ℤ, slice_get, if◌then◌else◌, Ok}
+use Rattle.std.specs.Prelude.{◌==◌, nat_le, ℤ, slice_get, if◌then◌else◌, Ok}
 use Rattle.std.proofs.lemmas.Bool.{and_from}
 use Rattle.std.proofs.lemmas.List.{length-map}
 use Rattle.cl_value.specs.declared.value.Value.{Value}
@@ -35,20 +35,9 @@ use Rattle.cl_code.proofs.Holds.{Holds, then_holds, holds_more, after_checked, a
 use Rattle.cl_code.proofs.Requests.{then_ok, same_Ok, value_typed, beside_marks}
 use Rattle.cl_code.proofs.Flow.{entered_at, parameters_fit}
 use Rattle.cl_code.proofs.Safe.{GlobalsFit, Ended, frame_fits, length_frame, after_claim, machine_good}
-
-left : (x y : Bool) → (x && y) ≡ true → x ≡ true
-left true y h = refl
-left false y h = h
-
-right : (x y : Bool) → (x && y) ≡ true → y ≡ true
-right true y h = h
-right false y h = absurd cc
+use Rattle.cl_code.proofs.Tests.{left, right, found}
 
 -- ---- values
-
-found : {A : Type 0} (test : A → Bool) (o : Option A) → has test o ≡ true → (x : A) × (o ≡ Some x) × (test x ≡ true)
-found test None h = absurd cc
-found test (Some x) h = (x, refl, h)
 
 as_many : (types : List FieldType) (vs : List Value) → all_beside has_type types vs ≡ true → length types ≡ length vs
 as_many [] [] h = refl

@@ -33,14 +33,7 @@ use Rattle.cl_code.specs.Valid.{gives_type, field_is_typed, place_is_typed}
 use Rattle.cl_code.specs.Starts.{has_type, takes_and_gives, calls_there, part_fits, live_fits}
 use Rattle.cl_code.specs.Requests.{IsRightRequest}
 use Rattle.cl_code.proofs.Effects.{SiteAsks}
-
-left : (x y : Bool) → (x && y) ≡ true → x ≡ true
-left true y h = refl
-left false y h = h
-
-right : (x y : Bool) → (x && y) ≡ true → y ≡ true
-right true y h = h
-right false y h = absurd cc
+use Rattle.cl_code.proofs.Tests.{left, right}
 
 -- ---- numbers as values
 

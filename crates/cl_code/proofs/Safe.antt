@@ -1,6 +1,6 @@
 -- The machine of a valid program never meets what it can't do, and asks for what its sites say.
 use Rattle.std.proofs.Common.{◌≡◌, ℕ, zero, suc, ◌+◌, ◌-◌, ◌≤◌, Bool, true, false, List, [], ◌∷◌, length, replicate, Some, refl, sym, ◌∙◌, subst, inl, inr, ⊎_elim, arith, ltb-false, length-append}
-use Rattle.std.specs.Prelude.{◌&&◌, ◌⊎◌, ℤ, pos, slice_get, nat_lt, if◌then◌else◌}
+use Rattle.std.specs.Prelude.{◌⊎◌, ℤ, pos, slice_get, nat_lt, if◌then◌else◌}
 use Rattle.std.proofs.lemmas.Bool.{cases_lt}
 use Rattle.std.proofs.lemmas.List.{length-replicate}
 use Rattle.std.proofs.lemmas.Option.{slice_get_within}
@@ -22,13 +22,10 @@ use Rattle.cl_code.specs.Machine.{Cells, Does, Stack, Way, On, To, Past, Over, I
 use Rattle.cl_code.proofs.Holds.{Holds, then_holds}
 use Rattle.cl_code.proofs.Effects.{CellsFit, LeadsBy, Takes, SiteAsks, After, leads}
 use Rattle.cl_code.proofs.Requests.{site_asks}
-use Rattle.cl_code.proofs.Flow.{At, Leaps, some_of, has_of, at_height, rule_3_at, rule_4_at, reaches, enough, on_next, on_jump, entered_at, parameters_fit}
+use Rattle.cl_code.proofs.Flow.{At, Leaps, some_of, at_height, rule_3_at, rule_4_at, reaches, enough, on_next, on_jump, entered_at, parameters_fit}
 use Rattle.cl_code.proofs.Fine.{below, steps}
 use Rattle.cl_code.proofs.Step.{follows, ticks_on, enters, leaves}
-
-right : (x y : Bool) → (x && y) ≡ true → y ≡ true
-right true y h = h
-right false y h = absurd cc
+use Rattle.cl_code.proofs.Tests.{right, has_of}
 
 -- a frame that waits: the address behind its call, where the result will stand on its stack, and its cells
 abbrev pub Waits : PlainProgram → Frame → Type 0
