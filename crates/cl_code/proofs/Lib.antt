@@ -1,6 +1,7 @@
 mod RuleRows
 mod Rows
 mod StartRows
+mod PositionRows
 pub mod Tests
 pub mod LawProofs
 pub mod Keeping
