@@ -63,7 +63,8 @@ some_at (x ∷ xs) (suc k) lt e = some_at xs k (omega (arith, lt)) e
 abbrev pub Takes : PlainProgram → ℕ → ℕ → Type 0
 Takes p number count = (f : PlainFunction) × (slice_get p.functions number ≡ Some f) × (count ≡ length f.parameters)
 
--- a way leads to such addresses, with so many numbers on the stack; a function is there and takes its arguments; what can't be done is told by L
+-- a way leads to such addresses, with so many numbers on the stack; a function is there and takes its arguments; and L holds where an instruction
+-- can't be done
 abbrev pub LeadsBy : PlainProgram → Type 0 → (ℕ → Type 0) → ℕ → ℕ → Way → Type 0
 LeadsBy p L Aims next h (On stack) = Aims next × (length stack ≡ h)
 LeadsBy p L Aims next h (To to stack) = Aims to × (length stack ≡ h)
@@ -88,7 +89,7 @@ JumpsBy Aims (Jump to) = Aims to
 JumpsBy Aims (JumpZero to) = Aims to
 JumpsBy Aims _ = Unit {0}
 
--- `L` is told where a cell may be missing, and then nothing of how many there are
+-- L is ⊥ where cells have their numbers, so that nothing is missing; where it holds nothing need be known of the cells
 module _ (p : PlainProgram) (depth : ℕ) (L : Type 0) (R : PlainRequest → Type 0) (f : PlainFunction) (Aims : ℕ → Type 0) (next h : ℕ) where
   abbrev Fit : Cells → Type 0
   Fit cells = L ⊎ CellsFit p f cells
