@@ -1,6 +1,6 @@
 -- In a text each operation is noted and found once. Where no fault is noted, there are at most 1,024, none has more than 16 fields, and the type of
 -- each field is found.
-use Rattle.std.proofs.Common.{◌≡◌, ◌∙◌, ◌≤◌, ap, sym, refl, subst, ℕ, List, [], ◌∷◌, ◌++◌, map, length, Option, Some, None, Result, Ok, Err, IfOk, arith}
+use Rattle.std.proofs.Common.{◌≡◌, ◌∙◌, ◌≤◌, ap, sym, refl, subst, ℕ, suc, List, [], ◌∷◌, ◌++◌, map, length, Option, Some, None, Result, Ok, Err, IfOk, arith}
 use Rattle.std.specs.List.{AllByRecursion}
 use Rattle.std.specs.Prelude.{option_map, if◌then◌else◌}
 use Rattle.cl_ast.specs.declared.span.Span.{Span}
@@ -53,9 +53,11 @@ use Rattle.cl_types.specs.Statements.{Walked, in_order, in_context, in_loop, sco
 use Rattle.cl_types.specs.Loops.{if_notes, while_notes, do_notes, for_notes}
 use Rattle.cl_types.specs.Items.{function_context, function_known, parameter_walked, parameters_walked, has_main, body_walked, item_walked, items_walked, known_first}
 use Rattle.cl_types.specs.Unit.{main_notes, unit_notes, faults}
-use Rattle.cl_types.specs.Fields.{Forms, expr_forms, place_forms}
+use Rattle.cl_types.specs.declared.fields.form.FieldForm.{FieldForm}
+use Rattle.cl_types.specs.Findings.{Finding, Forms, tell_own, told}
+use Rattle.cl_types.specs.Fields.{expr_forms, place_forms}
 use Rattle.cl_types.specs.Gathered.{each, maybe_forms}
-use Rattle.cl_types.specs.Found.{onward, change_forms, assign_forms, initial_forms, variable_behind, declarator_forms, variables_forms, spanned_forms, printed_forms, anywhere, known_behind, stmt_forms, block_forms, item_forms, item_behind, field_forms}
+use Rattle.cl_types.specs.Found.{onward, change_forms, assign_forms, initial_forms, variable_behind, declarator_forms, variables_forms, spanned_forms, printed_forms, anywhere, known_behind, stmt_forms, block_forms, item_forms, item_behind, findings, field_forms}
 use Rattle.cl_types.specs.Adds.{alone_forms, maybe_stmt_forms, if_parts, while_parts, do_parts, for_parts}
 use Rattle.cl_types.specs.EachTyped.{IsFound, HasType, EachTyped, EachNarrow}
 use Rattle.cl_types.proofs.Sentences as sentences
@@ -388,27 +390,35 @@ items_good [] known = nothing [] refl
 items_good (x ∷ xs) known =
     both (item_walked x known).notes (items_walked xs (item_behind x known)).notes (item_forms x known) (onward item_forms item_behind xs (item_behind x known)) (item_good x known) (items_good xs (item_behind x known))
 
-unit_good : (xs : List Item) → Sound (unit_notes xs) (field_forms xs)
-unit_good xs = beside (main_notes xs) (items_walked xs (known_first xs)).notes (field_forms xs) (quiet_unless (has_main xs) (record { place = 0; kind = kinds.NoMain })) (items_good xs (known_first xs))
+unit_good : (xs : List Item) → Sound (unit_notes xs) (findings xs)
+unit_good xs = beside (main_notes xs) (items_walked xs (known_first xs)).notes (findings xs) (quiet_unless (has_main xs) (record { place = 0; kind = kinds.NoMain })) (items_good xs (known_first xs))
 
 all_typed : (fs : Forms) → AllByRecursion Fine fs → EachTyped fs
 all_typed [] h = tt
 all_typed (own ∷ fs) h = (h.0.0, all_typed fs h.1)
 
-all_narrow : (fs : Forms) → AllByRecursion Fine fs → EachNarrow fs
-all_narrow [] h = tt
-all_narrow (own ∷ fs) h = (h.0.1, all_narrow fs h.1)
+own_told : (own : List Finding) → length (tell_own own) ≡ length own
+own_told [] = refl
+own_told (x ∷ xs) = ap suc (own_told xs)
 
-pub unit_typed : (xs : List Item) → faults xs ≡ [] → EachTyped (field_forms xs)
-unit_typed xs h = all_typed (field_forms xs) ((unit_good xs).clean (clean_unit xs h)).1
+all_narrow : (fs : Forms) → AllByRecursion Fine fs → EachNarrow (told fs)
+all_narrow [] h = tt
+all_narrow (own ∷ fs) h = (subst (λ n. n ≤ 16) (sym (own_told own)) h.0.1, all_narrow fs h.1)
+
+all_told : (fs : Forms) → length (told fs) ≡ length fs
+all_told [] = refl
+all_told (own ∷ fs) = ap suc (all_told fs)
+
+pub unit_typed : (xs : List Item) → faults xs ≡ [] → EachTyped (findings xs)
+unit_typed xs h = all_typed (findings xs) ((unit_good xs).clean (clean_unit xs h)).1
 
 pub unit_narrow : (xs : List Item) → faults xs ≡ [] → EachNarrow (field_forms xs)
-unit_narrow xs h = all_narrow (field_forms xs) ((unit_good xs).clean (clean_unit xs h)).1
+unit_narrow xs h = all_narrow (findings xs) ((unit_good xs).clean (clean_unit xs h)).1
 
 pub unit_few : (xs : List Item) → faults xs ≡ [] → length (field_forms xs) ≤ 1024
-unit_few xs h = let few = few_unit xs h in let count = (unit_good xs).count in omega (arith, few, count)
+unit_few xs h = let few = few_unit xs h in let count = (unit_good xs).count in let same = all_told (findings xs) in omega (arith, few, count, same)
 
 -- what holds of the forms holds of those that are told
-pub of_told : {E : Type 0} (r : Result Forms E) (xs : List Item) (Q : Forms → Type 0) → IfOk r (λ fs. fs ≡ field_forms xs) → Q (field_forms xs) → IfOk r Q
+pub of_told : {E : Type 0} (r : Result (List (List FieldForm)) E) (xs : List Item) (Q : List (List FieldForm) → Type 0) → IfOk r (λ fs. fs ≡ field_forms xs) → Q (field_forms xs) → IfOk r Q
 of_told (Ok fs) xs Q h q = subst Q (sym h) q
 of_told (Err e) xs Q h q = tt

@@ -19,7 +19,7 @@ use Rattle.cl_ast.specs.declared.tree.Expr.TheFolds as e
 use Rattle.cl_ast.specs.declared.tree.Expr.TheOpen.{Expr-F, Field-F, Place-F}
 use Rattle.cl_ast.specs.declared.tree.Expr.TheViews.{out-Field, roll-Expr, roll-Field, outs-Text, outs-Formal, outs-Plain, roll-out-Place, roll-out-Call, roll-out-Operation, roll-out-Formal, roll-out-Chain, roll-out-Link, roll-out-Prefix}
 use Rattle.cl_types.specs.declared.context.Access.TheVariants as accesses
-use Rattle.cl_types.specs.declared.fields.form.FieldForm.TheVariants as forms
+use Rattle.cl_types.specs.Findings as findings
 use Rattle.cl_types.specs.Declarations.{Known}
 use Rattle.cl_types.specs.Expressions.{judged, judged_place, constant_of}
 use Rattle.cl_types.specs.Fields.{plain_form, form_rule, field_form, own_forms, Finds, joined, or_none, parts_of, in_expr, in_field, in_call, in_chain, in_formal, in_link, in_operation, in_place, in_prefix, expr_forms, place_forms, call_forms, operation_forms, inner_forms, chain_forms, formal_forms, link_forms, prefix_forms}
@@ -27,10 +27,10 @@ use Rattle.cl_types.specs.Gathered.{each, maybe_forms}
 
 -- ---- one field
 
-pub text_form : (x : Text) (known : Known) → field_form (fields.Text x) known ≡ forms.Text
+pub text_form : (x : Text) (known : Known) → field_form (fields.Text x) known ≡ findings.Text
 text_form x known = ap (λ f. form_rule f known) (outs-Text x)
 
-pub formal_form : (x : Formal) (known : Known) → field_form (fields.Formal x) known ≡ forms.Formal (judged_place (out-Formal x).target accesses.Write known).type
+pub formal_form : (x : Formal) (known : Known) → field_form (fields.Formal x) known ≡ findings.Formal (judged_place (out-Formal x).target accesses.Write known).type
 formal_form x known = ap (λ f. form_rule f known) (outs-Formal x)
 
 pub expr_form : (x : Expr) (known : Known) → field_form (fields.Plain x) known ≡ plain_form (constant_of x known) (judged x known).type

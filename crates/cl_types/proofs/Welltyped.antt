@@ -30,8 +30,8 @@ use Rattle.cl_types.specs.Types.{literal_type, negated_type}
 use Rattle.cl_types.specs.Declarations.{Known, look_up}
 use Rattle.cl_ast.specs.declared.tree.TypeName.TheVariants as types
 use Rattle.cl_types.specs.Expressions.{Judged, LinkJudges, no_notes, judged_name, judged_called, place_faults, is_indexed, index_notes, call_faults, width_faults, formal_faults, notes_of, joined, all_judged, all_noted, judged_link, chained, judged, judged_place, judged_call, judged_chain, judged_operand, operation_notes, field_notes, formal_notes, constant_of}
-use Rattle.cl_types.specs.declared.fields.form.FieldForm.{FieldForm}
-use Rattle.cl_types.specs.Fields.{Forms, field_form, own_forms, expr_forms, place_forms, call_forms, operation_forms, inner_forms, chain_forms, link_forms}
+use Rattle.cl_types.specs.Findings.{Finding, Forms}
+use Rattle.cl_types.specs.Fields.{field_form, own_forms, expr_forms, place_forms, call_forms, operation_forms, inner_forms, chain_forms, link_forms}
 use Rattle.cl_types.specs.Gathered.{each, maybe_forms}
 use Rattle.cl_types.specs.EachTyped.{IsFound, HasType}
 use Rattle.cl_types.proofs.Rules as rules
@@ -39,7 +39,7 @@ use Rattle.cl_types.proofs.Finding as finding
 use Rattle.cl_types.proofs.Clean.{Clean, clean_split, none_found, sites_in, sites_append, quiet_found, narrow_width, place_found, Gives, gives_found, operated_found, negated_found, plain_typed}
 
 -- the fields of one operation
-abbrev pub Fine : List FieldForm → Type 0
+abbrev pub Fine : List Finding → Type 0
 Fine own = AllByRecursion HasType own × (length own ≤ 16)
 
 -- What holds of what is noted and found in a part: as many operations are noted as are found, and where no fault is noted, A holds too, and the

@@ -7,14 +7,16 @@ use Rattle.cl_ast.specs.declared.statement.While.{While, out-While}
 use Rattle.cl_ast.specs.declared.statement.Do.{Do, out-Do}
 use Rattle.cl_ast.specs.declared.statement.For.{For, out-For}
 use Rattle.cl_types.specs.Declarations.{Known, enter}
-use Rattle.cl_types.specs.Fields.{Forms, Finds, expr_forms}
+use Rattle.cl_types.specs.declared.fields.form.FieldForm.{FieldForm}
+use Rattle.cl_types.specs.Findings.{Forms, adds}
+use Rattle.cl_types.specs.Fields.{Finds, expr_forms}
 use Rattle.cl_types.specs.Gathered.{maybe_forms}
 use Rattle.cl_types.specs.Found.{stmt_forms}
 
 -- the walk leads to what is known, and adds what is found
-pub record Adds (found : Forms) (known now : Known) (before after : Forms) : Type 0 where
+pub record Adds (found : Forms) (known now : Known) (before after : List (List FieldForm)) : Type 0 where
   pub known_is : now ≡ known
-  pub found_is : after ≡ before ++ found
+  pub found_is : after ≡ adds before found
 
 -- what is known behind parts, one after the other
 abbrev pub behind_all : {A : Type 0} → (A → Known → Known) → List A → Known → Known

@@ -1,25 +1,23 @@
 -- What holds of the fields of a tree without faults. (This project.)
 use Rattle.std.specs.Prelude.{◌≤◌, List, length, Option, Some, None}
 use Rattle.std.specs.List.{AllByRecursion}
-use Rattle.cl_types.specs.declared.fields.form.FieldForm.{FieldForm}
-use Rattle.cl_types.specs.declared.fields.form.FieldForm.TheVariants as forms
-use Rattle.cl_types.specs.Fields.{Forms}
+use Rattle.cl_types.specs.Findings.{Finding, Text, Constant, Formal, Actual, Forms}
 
 abbrev pub IsFound : {A : Type 0} → Option A → Type 0
 IsFound None = ⊥
 IsFound (Some t) = Unit {0}
 
 -- the type of a formal or of an expression is found
-abbrev pub HasType : FieldForm → Type 0
-HasType forms.Text = Unit {0}
-HasType (forms.Constant n) = Unit {0}
-HasType (forms.Formal t) = IsFound t
-HasType (forms.Actual t) = IsFound t
+abbrev pub HasType : Finding → Type 0
+HasType Text = Unit {0}
+HasType (Constant n) = Unit {0}
+HasType (Formal t) = IsFound t
+HasType (Actual t) = IsFound t
 
 -- that of each field of each operation
 abbrev pub EachTyped : Forms → Type 0
 EachTyped fs = AllByRecursion (AllByRecursion HasType) fs
 
 -- each operation has at most 16 fields
-abbrev pub EachNarrow : Forms → Type 0
+abbrev pub EachNarrow : {A : Type 0} → List (List A) → Type 0
 EachNarrow fs = AllByRecursion (λ own. length own ≤ 16) fs

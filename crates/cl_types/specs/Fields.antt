@@ -16,37 +16,33 @@ use Rattle.cl_ast.specs.declared.tree.Expr.TheOpen.{Expr-F, Place-F, Call-F, Ope
 use Rattle.cl_ast.specs.declared.tree.Expr.TheFolds as e
 use Rattle.cl_types.specs.declared.context.Access.TheVariants as accesses
 use Rattle.cl_types.specs.declared.declared.Number.{Number}
-use Rattle.cl_types.specs.declared.fields.form.FieldForm.{FieldForm}
-use Rattle.cl_types.specs.declared.fields.form.FieldForm.TheVariants as forms
 use Rattle.cl_types.specs.Declarations.{Known}
+use Rattle.cl_types.specs.Findings.{Finding, Forms}
+use Rattle.cl_types.specs.Findings as findings
 use Rattle.cl_types.specs.Expressions.{judged, judged_place, constant_of}
 
 -- ---- one field
 
 -- an expression is a constant where it tells a number; else it is of its type
-abbrev pub plain_form : Option Number → Option TypeName → FieldForm
-plain_form (Some n) t = forms.Constant n
-plain_form None t = forms.Actual t
+abbrev pub plain_form : Option Number → Option TypeName → Finding
+plain_form (Some n) t = findings.Constant n
+plain_form None t = findings.Actual t
 
-abbrev pub form_rule : Field-F Expr Field Call Chain Formal Link Operation Place Prefix → Known → FieldForm
-form_rule (Field-F.Text text) known = forms.Text
-form_rule (Field-F.Formal formal) known = forms.Formal (judged_place (out-Formal formal).target accesses.Write known).type
+abbrev pub form_rule : Field-F Expr Field Call Chain Formal Link Operation Place Prefix → Known → Finding
+form_rule (Field-F.Text text) known = findings.Text
+form_rule (Field-F.Formal formal) known = findings.Formal (judged_place (out-Formal formal).target accesses.Write known).type
 form_rule (Field-F.Plain x) known = plain_form (constant_of x known) (judged x known).type
 
 -- what a field is where this is known
-abbrev pub field_form : Field → Known → FieldForm
+abbrev pub field_form : Field → Known → Finding
 field_form field known = form_rule (out-Field field) known
 
 -- the fields of one operation, in order
-abbrev pub own_forms : List Field → Known → List FieldForm
+abbrev pub own_forms : List Field → Known → List Finding
 own_forms [] known = []
 own_forms (f ∷ fs) known = field_form f known ∷ own_forms fs known
 
 -- ---- operations in their order
-
--- one list for each operation
-abbrev pub Forms : Type 0
-Forms = List (List FieldForm)
 
 -- what is found in a part where this is known
 abbrev pub Finds : Type 0

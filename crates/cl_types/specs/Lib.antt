@@ -5,6 +5,7 @@ pub mod Ends
 pub mod Expressions
 pub mod Faults
 pub mod Fields
+pub mod Findings
 pub mod Folds
 pub mod Formats
 pub mod Found

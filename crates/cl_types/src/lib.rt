@@ -1,6 +1,7 @@
-//! Scopes, types of expressions and the faults of a tree.
+//! Scopes, types of expressions, the faults of a tree, and what the fields of its operations are.
 //!
-//! `specs/` lists all faults of a tree by a walk in the order of its text.
+//! `specs/` lists all faults of a tree by a walk in the order of its text, and what the fields are in the same
+//! order.
 #![tactic(auto)]
 
 mod context;

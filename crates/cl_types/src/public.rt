@@ -55,11 +55,10 @@ impl Model for Typed {
 }
 
 impl Typed {
-    ghost use Rattle.std.specs.Prelude.{◌≡◌, []};
+    ghost use Rattle.std.specs.Prelude.{◌≡◌, ◌≤◌, [], length, IfOk};
     ghost use Rattle.cl_types.specs.Unit.{faults};
-    ghost use Rattle.cl_types.specs.Found.{field_forms};
+    ghost use Rattle.cl_types.specs.Found.{findings, field_forms};
     ghost use Rattle.cl_types.specs.EachTyped.{EachTyped, EachNarrow};
-    ghost use Rattle.std.specs.Prelude.{IfOk, length, ◌≤◌};
 
     /// The tree. It takes no memory.
     pub fn unit(&self) -> &Unit
@@ -70,11 +69,11 @@ impl Typed {
     }
 
     /// What the fields of each operation are: one list for each operation, in the order of the text, and in it one
-    /// form for each of its fields, in order. An operation in a field of another stands behind it. `AllocError`
-    /// comes where the allocator refused memory.
+    /// form for each of its fields, in order. An operation in a field of another stands behind it. There are at
+    /// most 1,024 operations of at most 16 fields. `AllocError` comes where the allocator refused memory.
     pub fn field_forms(&self, alloc: Global) -> Result<Items<Items<FieldForm>>, AllocError>
         ensures forms { IfOk result (λ forms. forms ≡ field_forms self.now.items) }
-        ensures typed { IfOk result (λ forms. EachTyped forms) }
+        ensures typed { EachTyped (findings self.now.items) }
         ensures narrow { IfOk result (λ forms. EachNarrow forms) }
         ensures few { IfOk result (λ forms. length forms ≤ 1024) }
     {

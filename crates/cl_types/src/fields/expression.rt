@@ -1,4 +1,5 @@
-ghost use Rattle.std.specs.Prelude.{◌≡◌, ◌++◌, OnOk};
+ghost use Rattle.std.specs.Prelude.{◌≡◌, OnOk};
+ghost use Rattle.cl_types.specs.Findings.{adds};
 ghost use Rattle.cl_types.specs.Fields.{expr_forms, place_forms, call_forms, operation_forms, inner_forms, chain_forms};
 ghost use Rattle.cl_types.specs.Gathered.{each, maybe_forms};
 
@@ -17,7 +18,7 @@ pub fn expr(
     scopes: &Scopes<'_>,
     forms: &mut Items<Items<FieldForm>>,
 ) -> Result<(), AllocError>
-    ensures { OnOk result (forms.new ≡ forms.old ++ expr_forms e.now scopes.now) }
+    ensures { OnOk result (forms.new ≡ adds forms.old (expr_forms e.now scopes.now)) }
 {
     match e {
         Expr::Literal(_) => Ok(()),
@@ -38,7 +39,7 @@ fn index(
     scopes: &Scopes<'_>,
     forms: &mut Items<Items<FieldForm>>,
 ) -> Result<(), AllocError>
-    ensures { OnOk result (forms.new ≡ forms.old ++ maybe_forms part.now scopes.now) }
+    ensures { OnOk result (forms.new ≡ adds forms.old (maybe_forms part.now scopes.now)) }
 {
     match part {
         None => Ok(()),
@@ -54,7 +55,7 @@ pub fn place(
     scopes: &Scopes<'_>,
     forms: &mut Items<Items<FieldForm>>,
 ) -> Result<(), AllocError>
-    ensures { OnOk result (forms.new ≡ forms.old ++ place_forms part.now scopes.now) }
+    ensures { OnOk result (forms.new ≡ adds forms.old (place_forms part.now scopes.now)) }
 {
     index(&part.index, alloc, scopes, forms)
 }
@@ -67,7 +68,7 @@ pub fn call(
     scopes: &Scopes<'_>,
     forms: &mut Items<Items<FieldForm>>,
 ) -> Result<(), AllocError>
-    ensures { OnOk result (forms.new ≡ forms.old ++ call_forms part.now scopes.now) }
+    ensures { OnOk result (forms.new ≡ adds forms.old (call_forms part.now scopes.now)) }
 {
     arguments(part.arguments.as_slice(), alloc, scopes, forms)
 }
@@ -80,7 +81,7 @@ fn arguments(
     scopes: &Scopes<'_>,
     forms: &mut Items<Items<FieldForm>>,
 ) -> Result<(), AllocError>
-    ensures { OnOk result (forms.new ≡ forms.old ++ each expr_forms parts.now scopes.now) }
+    ensures { OnOk result (forms.new ≡ adds forms.old (each expr_forms parts.now scopes.now)) }
 {
     for i in 0..parts.len() {
         expr(&parts[i], alloc, scopes, forms)?;
@@ -96,7 +97,7 @@ pub fn operation(
     scopes: &Scopes<'_>,
     forms: &mut Items<Items<FieldForm>>,
 ) -> Result<(), AllocError>
-    ensures { OnOk result (forms.new ≡ forms.old ++ operation_forms part.now scopes.now) }
+    ensures { OnOk result (forms.new ≡ adds forms.old (operation_forms part.now scopes.now)) }
 {
     forms.push(own_forms(alloc, part.fields.as_slice(), scopes)?)?;
     fields(part.fields.as_slice(), alloc, scopes, forms)
@@ -110,7 +111,7 @@ fn fields(
     scopes: &Scopes<'_>,
     forms: &mut Items<Items<FieldForm>>,
 ) -> Result<(), AllocError>
-    ensures { OnOk result (forms.new ≡ forms.old ++ each inner_forms parts.now scopes.now) }
+    ensures { OnOk result (forms.new ≡ adds forms.old (each inner_forms parts.now scopes.now)) }
 {
     for i in 0..parts.len() {
         field(&parts[i], alloc, scopes, forms)?;
@@ -126,7 +127,7 @@ fn field(
     scopes: &Scopes<'_>,
     forms: &mut Items<Items<FieldForm>>,
 ) -> Result<(), AllocError>
-    ensures { OnOk result (forms.new ≡ forms.old ++ inner_forms part.now scopes.now) }
+    ensures { OnOk result (forms.new ≡ adds forms.old (inner_forms part.now scopes.now)) }
 {
     match part {
         Field::Text(_) => Ok(()),
@@ -143,7 +144,7 @@ fn chain(
     scopes: &Scopes<'_>,
     forms: &mut Items<Items<FieldForm>>,
 ) -> Result<(), AllocError>
-    ensures { OnOk result (forms.new ≡ forms.old ++ chain_forms part.now scopes.now) }
+    ensures { OnOk result (forms.new ≡ adds forms.old (chain_forms part.now scopes.now)) }
 {
     expr(part.first.get(), alloc, scopes, forms)?;
     let links = part.others.as_slice();

@@ -17,6 +17,7 @@ use std::alloc::{AllocError, Global};
 fn constant<'a>(part: &'a Define, scopes: &mut Scopes<'a>) -> Result<(), AllocError>
     ensures { OnOk result (scopes.new ≡ (define_walked part.now scopes.old).known) }
 {
+    // What is noted here was judged before.
     let mut journal = Journal::new();
     define(part, scopes, &mut journal)
 }
@@ -34,6 +35,7 @@ fn function<'a>(
 {
     declare_function(part, alloc, scopes)?;
     let outer = scopes.enter();
+    // What is noted of parameters was judged before.
     let mut journal = Journal::new();
     parameters(part.parameters.as_slice(), scopes, &mut journal)?;
     block(&part.body, alloc, scopes, forms)?;

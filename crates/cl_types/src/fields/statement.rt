@@ -1,4 +1,5 @@
-ghost use Rattle.std.specs.Prelude.{◌≡◌, ◌++◌, OnOk};
+ghost use Rattle.std.specs.Prelude.{◌≡◌, OnOk};
+ghost use Rattle.cl_types.specs.Findings.{adds};
 ghost use Rattle.cl_types.specs.Declarations.{enter};
 ghost use Rattle.cl_types.specs.Gathered.{maybe_forms};
 ghost use Rattle.cl_types.specs.Found.{change_forms, assign_forms, initial_forms, declarator_forms, variable_behind, variables_forms, printed_forms, known_behind, stmt_forms, block_forms};
@@ -23,7 +24,7 @@ fn maybe_expr(
     scopes: &Scopes<'_>,
     forms: &mut Items<Items<FieldForm>>,
 ) -> Result<(), AllocError>
-    ensures { OnOk result (forms.new ≡ forms.old ++ maybe_forms part.now scopes.now) }
+    ensures { OnOk result (forms.new ≡ adds forms.old (maybe_forms part.now scopes.now)) }
 {
     match part {
         None => Ok(()),
@@ -38,7 +39,7 @@ fn change(
     scopes: &Scopes<'_>,
     forms: &mut Items<Items<FieldForm>>,
 ) -> Result<(), AllocError>
-    ensures { OnOk result (forms.new ≡ forms.old ++ change_forms part.now scopes.now) }
+    ensures { OnOk result (forms.new ≡ adds forms.old (change_forms part.now scopes.now)) }
 {
     match part {
         Change::Set(e) | Change::Add(e) | Change::Subtract(e) | Change::Multiply(e) => {
@@ -55,7 +56,7 @@ fn assign(
     scopes: &Scopes<'_>,
     forms: &mut Items<Items<FieldForm>>,
 ) -> Result<(), AllocError>
-    ensures { OnOk result (forms.new ≡ forms.old ++ assign_forms part.now scopes.now) }
+    ensures { OnOk result (forms.new ≡ adds forms.old (assign_forms part.now scopes.now)) }
 {
     place(&part.place, alloc, scopes, forms)?;
     change(&part.change, alloc, scopes, forms)
@@ -68,7 +69,7 @@ fn initial(
     scopes: &Scopes<'_>,
     forms: &mut Items<Items<FieldForm>>,
 ) -> Result<(), AllocError>
-    ensures { OnOk result (forms.new ≡ forms.old ++ initial_forms part.now scopes.now) }
+    ensures { OnOk result (forms.new ≡ adds forms.old (initial_forms part.now scopes.now)) }
 {
     match part {
         Form::Bare | Form::Array(_) => Ok(()),
@@ -114,7 +115,7 @@ fn printed(
     scopes: &Scopes<'_>,
     forms: &mut Items<Items<FieldForm>>,
 ) -> Result<(), AllocError>
-    ensures { OnOk result (forms.new ≡ forms.old ++ printed_forms parts.now scopes.now) }
+    ensures { OnOk result (forms.new ≡ adds forms.old (printed_forms parts.now scopes.now)) }
 {
     for part in parts {
         expr(&part.expr, alloc, scopes, forms)?;
@@ -266,7 +267,7 @@ pub fn block<'a>(
     scopes: &mut Scopes<'a>,
     forms: &mut Items<Items<FieldForm>>,
 ) -> Result<(), AllocError>
-    ensures found { OnOk result (forms.new ≡ forms.old ++ block_forms part.now scopes.old) }
+    ensures found { OnOk result (forms.new ≡ adds forms.old (block_forms part.now scopes.old)) }
     ensures keeps { OnOk result (Keeps scopes.old scopes.new) }
 {
     let parts = part.statements.as_slice();

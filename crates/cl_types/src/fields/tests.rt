@@ -64,8 +64,8 @@ const FIELDS: &[u8] =
 
 #[test]
 fn fields_are_told_in_the_order_of_the_text(rt: HostRuntime) {
-    let int = Some(TypeName::Int);
-    let long = Some(TypeName::Long);
+    let int = TypeName::Int;
+    let long = TypeName::Long;
     let wanted: &[&[FieldForm]] = &[
         &[
             Text,
@@ -77,15 +77,10 @@ fn fields_are_told_in_the_order_of_the_text(rt: HostRuntime) {
         ],
         &[Text, Actual(int), Actual(int), Actual(int)],
         &[Text, Actual(int), Actual(int)],
+        &[Text, Actual(TypeName::Char), Actual(long), Actual(int)],
         &[
             Text,
-            Actual(Some(TypeName::Char)),
-            Actual(long),
-            Actual(int),
-        ],
-        &[
-            Text,
-            Formal(Some(TypeName::Char)),
+            Formal(TypeName::Char),
             Formal(int),
             Formal(long),
             Actual(int),

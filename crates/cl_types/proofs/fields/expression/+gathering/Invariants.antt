@@ -1,4 +1,5 @@
-use Rattle.std.proofs.Common.{◌≡◌, ◌++◌, drop}
+use Rattle.std.proofs.Common.{◌≡◌, drop}
+use Rattle.cl_types.specs.Findings.{adds}
 use Rattle.cl_types.specs.Fields.{expr_forms, inner_forms, chain_forms, link_forms}
 use Rattle.cl_types.specs.Gathered.{each}
 use Rattle.cl_types.proofs.Gathering.{Gathers}
@@ -12,4 +13,4 @@ invariant-fields-loop-i l = Gathers inner_forms l.parts l.i l.scopes l.initial.f
 
 -- the operands that are left lead to the whole chain
 abbrev pub invariant-chain-loop-i : goal.invariant-chain-loop-i
-invariant-chain-loop-i l = l.forms ++ each link_forms (drop l.i l.links) l.scopes ≡ l.fn.forms ++ chain_forms l.fn.part l.scopes
+invariant-chain-loop-i l = adds l.forms (each link_forms (drop l.i l.links) l.scopes) ≡ adds l.fn.forms (chain_forms l.fn.part l.scopes)

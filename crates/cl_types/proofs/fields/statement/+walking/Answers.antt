@@ -6,12 +6,13 @@ use Rattle.cl_ast.specs.declared.statement.For.{out-For}
 use Rattle.cl_ast.specs.declared.statement.Stmt.{Stmt}
 use Rattle.cl_ast.specs.declared.statement.Block.{out-Block}
 use Rattle.cl_types.specs.Declarations.{Known}
+use Rattle.cl_types.specs.Findings.{adds}
 use Rattle.cl_types.specs.Fields.{Finds, expr_forms}
 use Rattle.cl_types.specs.Gathered.{maybe_forms}
 use Rattle.cl_types.specs.Found.{onward, printed_forms, known_behind, stmt_forms, block_forms}
 use Rattle.cl_types.specs.Adds.{Adds, alone_forms, maybe_stmt_forms}
 use Rattle.cl_types.proofs.Walking.{on_ok, keeps_itself, keeps_on, keeps_same, leave_fits}
-use Rattle.cl_types.proofs.Gathering.{told, nothing_found}
+use Rattle.cl_types.proofs.Gathering.{otherwise, nothing_found}
 use Rattle.cl_types.proofs.Onward.{stays_put, finds_then, adds_then, scope_adds, onward_begins, onward_turn, onward_ends}
 use Rattle.cl_types.proofs.Stating.{of_block, of_empty, of_variables, of_assign, of_call, of_operation, of_print, of_if, of_while, of_do, of_for, of_break, of_continue, of_return, block_is, behind_block, behind_empty, behind_variables, behind_assign, behind_call, behind_operation, behind_print, behind_if, behind_while, behind_do, behind_for, behind_break, behind_continue, behind_return}
 use Rattle.cl_types.proofs.fields.statement.+walking.Goals as goal
@@ -38,7 +39,7 @@ pub statement-returns-in-Operation-clause-adds : goal.statement-returns-in-Opera
 statement-returns-in-Operation-clause-adds t c = rw (c.in-Operation.is, of_operation, behind_operation) (on_ok c.operation.result c.operation.ensures (λ h. stays_put _ c.args.scopes.now c.args.forms.now _ (h)))
 
 pub statement-returns-in-Print-clause-adds : goal.statement-returns-in-Print-clause-adds
-statement-returns-in-Print-clause-adds t c = rw (c.in-Print.is, of_print, behind_print) (on_ok c.printed.result c.printed.ensures (λ h. stays_put _ c.args.scopes.now c.args.forms.now _ (h ∙ ap (λ xs. c.args.forms.now ++ printed_forms xs c.args.scopes.now) c.as_slice.ensures)))
+statement-returns-in-Print-clause-adds t c = rw (c.in-Print.is, of_print, behind_print) (on_ok c.printed.result c.printed.ensures (λ h. stays_put _ c.args.scopes.now c.args.forms.now _ (h ∙ ap (λ xs. adds c.args.forms.now (printed_forms xs c.args.scopes.now)) c.as_slice.ensures)))
 
 pub statement-returns-in-If-clause-adds : goal.statement-returns-in-If-clause-adds
 statement-returns-in-If-clause-adds t c = rw (c.in-If.is, of_if, behind_if) c.choose.ensures
@@ -148,9 +149,9 @@ block-loop-i-preserved t c = (
 
 pub block-returns-clause-found : goal.block-returns-clause-found
 block-returns-clause-found t c =
-    told c.args.forms.now _ (block_forms c.args.part.now c.args.scopes.now) _ (block_is c.args.part.now c.args.scopes.now)
+    otherwise c.args.forms.now _ (block_forms c.args.part.now c.args.scopes.now) _ (block_is c.args.part.now c.args.scopes.now)
     ((onward_ends stmt_forms known_behind c.as_slice-parts.result.now c.loop-i.i c.args.scopes.now c.args.forms.now c.loop-i.scopes c.loop-i.forms c.loop-i.invariant.0 (omega arith)).found_is
-    ∙ ap (λ ys. c.args.forms.now ++ onward stmt_forms known_behind ys c.args.scopes.now) c.as_slice-parts.ensures)
+    ∙ ap (λ ys. adds c.args.forms.now (onward stmt_forms known_behind ys c.args.scopes.now)) c.as_slice-parts.ensures)
 
 pub block-returns-clause-keeps : goal.block-returns-clause-keeps
 block-returns-clause-keeps t c = c.loop-i.invariant.1

@@ -1,0 +1,41 @@
+-- What is found of the fields of operations, and what is told of it. (Gelernter 1985; that a type that isn't found is told as `int`, which no tree
+-- without faults has: this project.)
+use Rattle.std.specs.Prelude.{List, [], ◌∷◌, ◌++◌, Option, Some, None}
+use Rattle.cl_ast.specs.declared.tree.TypeName.{TypeName}
+use Rattle.cl_ast.specs.declared.tree.TypeName.TheVariants as types
+use Rattle.cl_types.specs.declared.declared.Number.{Number}
+use Rattle.cl_types.specs.declared.fields.form.FieldForm.{FieldForm}
+use Rattle.cl_types.specs.declared.fields.form.FieldForm.TheVariants as forms
+
+-- a string, a constant, or a formal or an expression with its type, which isn't found where the tree has a fault there
+pub data Finding : Type 0 where
+  Text : Finding
+  Constant : (number : Number) → Finding
+  Formal : (type : Option TypeName) → Finding
+  Actual : (type : Option TypeName) → Finding
+
+-- one list for each operation, in it one for each of its fields
+abbrev pub Forms : Type 0
+Forms = List (List Finding)
+
+abbrev pub found_type : Option TypeName → TypeName
+found_type None = types.Int
+found_type (Some t) = t
+
+abbrev pub tell : Finding → FieldForm
+tell Text = forms.Text
+tell (Constant n) = forms.Constant n
+tell (Formal t) = forms.Formal (found_type t)
+tell (Actual t) = forms.Actual (found_type t)
+
+abbrev pub tell_own : List Finding → List FieldForm
+tell_own [] = []
+tell_own (x ∷ xs) = tell x ∷ tell_own xs
+
+abbrev pub told : Forms → List (List FieldForm)
+told [] = []
+told (x ∷ xs) = tell_own x ∷ told xs
+
+-- behind what was told before
+abbrev pub adds : List (List FieldForm) → Forms → List (List FieldForm)
+adds before fs = before ++ told fs
