@@ -53,11 +53,11 @@ use Rattle.cl_types.specs.Statements.{Walked, in_order, in_context, in_loop, sco
 use Rattle.cl_types.specs.Loops.{if_notes, while_notes, do_notes, for_notes}
 use Rattle.cl_types.specs.Items.{function_context, function_known, parameter_walked, parameters_walked, has_main, body_walked, item_walked, items_walked, known_first}
 use Rattle.cl_types.specs.Unit.{main_notes, unit_notes, faults}
-use Rattle.cl_types.specs.declared.fields.form.FieldForm.{FieldForm}
-use Rattle.cl_types.specs.Findings.{Finding, Forms, tell_own, told}
+use Rattle.cl_types.specs.declared.fields.site.Site.{Site}
+use Rattle.cl_types.specs.Findings.{Finding, Forms, tell_own, told, seen}
 use Rattle.cl_types.specs.Fields.{expr_forms, place_forms}
 use Rattle.cl_types.specs.Gathered.{each, maybe_forms}
-use Rattle.cl_types.specs.Found.{onward, change_forms, assign_forms, initial_forms, variable_behind, declarator_forms, variables_forms, spanned_forms, printed_forms, anywhere, known_behind, stmt_forms, block_forms, item_forms, item_behind, findings, field_forms}
+use Rattle.cl_types.specs.Found.{onward, change_forms, assign_forms, initial_forms, variable_behind, declarator_forms, variables_forms, spanned_forms, printed_forms, anywhere, known_behind, stmt_forms, block_forms, item_forms, item_behind, findings, sites_of}
 use Rattle.cl_types.specs.Adds.{alone_forms, maybe_stmt_forms, if_parts, while_parts, do_parts, for_parts}
 use Rattle.cl_types.specs.EachTyped.{IsFound, HasType, EachTyped, EachNarrow}
 use Rattle.cl_types.proofs.Sentences as sentences
@@ -395,7 +395,7 @@ unit_good xs = beside (main_notes xs) (items_walked xs (known_first xs)).notes (
 
 all_typed : (fs : Forms) → AllByRecursion Fine fs → EachTyped fs
 all_typed [] h = tt
-all_typed (own ∷ fs) h = (h.0.0, all_typed fs h.1)
+all_typed (x ∷ fs) h = (h.0.0, all_typed fs h.1)
 
 own_told : (own : List Finding) → length (tell_own own) ≡ length own
 own_told [] = refl
@@ -403,22 +403,25 @@ own_told (x ∷ xs) = ap suc (own_told xs)
 
 all_narrow : (fs : Forms) → AllByRecursion Fine fs → EachNarrow (told fs)
 all_narrow [] h = tt
-all_narrow (own ∷ fs) h = (subst (λ n. n ≤ 16) (sym (own_told own)) h.0.1, all_narrow fs h.1)
+all_narrow (x ∷ fs) h = (subst (λ n. n ≤ 16) (sym (own_told x.1)) h.0.1, all_narrow fs h.1)
 
 all_told : (fs : Forms) → length (told fs) ≡ length fs
 all_told [] = refl
-all_told (own ∷ fs) = ap suc (all_told fs)
+all_told (x ∷ fs) = ap suc (all_told fs)
+
+all_seen : (sites : List Site) → length (seen sites) ≡ length sites
+all_seen [] = refl
+all_seen (x ∷ sites) = ap suc (all_seen sites)
 
 pub unit_typed : (xs : List Item) → faults xs ≡ [] → EachTyped (findings xs)
 unit_typed xs h = all_typed (findings xs) ((unit_good xs).clean (clean_unit xs h)).1
 
-pub unit_narrow : (xs : List Item) → faults xs ≡ [] → EachNarrow (field_forms xs)
+pub unit_narrow : (xs : List Item) → faults xs ≡ [] → EachNarrow (sites_of xs)
 unit_narrow xs h = all_narrow (findings xs) ((unit_good xs).clean (clean_unit xs h)).1
 
-pub unit_few : (xs : List Item) → faults xs ≡ [] → length (field_forms xs) ≤ 1024
+unit_few : (xs : List Item) → faults xs ≡ [] → length (sites_of xs) ≤ 1024
 unit_few xs h = let few = few_unit xs h in let count = (unit_good xs).count in let same = all_told (findings xs) in omega (arith, few, count, same)
 
--- what holds of the forms holds of those that are told
-pub of_told : {E : Type 0} (r : Result (List (List FieldForm)) E) (xs : List Item) (Q : List (List FieldForm) → Type 0) → IfOk r (λ fs. fs ≡ field_forms xs) → Q (field_forms xs) → IfOk r Q
-of_told (Ok fs) xs Q h q = subst Q (sym h) q
-of_told (Err e) xs Q h q = tt
+pub sites_few : {E : Type 0} (r : Result (List Site) E) (xs : List Item) → faults xs ≡ [] → IfOk r (λ sites. seen sites ≡ sites_of xs) → IfOk r (λ sites. length sites ≤ 1024)
+sites_few (Ok sites) xs h is = let few = unit_few xs h in let same = all_seen sites in let all = ap length is in omega (arith, few, same, all)
+sites_few (Err e) xs h is = tt

@@ -17,7 +17,7 @@ use Rattle.cl_ast.specs.declared.tree.Link.{Link, out-Link}
 use Rattle.cl_ast.specs.declared.tree.Prefix.{Prefix, out-Prefix}
 use Rattle.cl_ast.specs.declared.tree.Expr.TheFolds as e
 use Rattle.cl_ast.specs.declared.tree.Expr.TheOpen.{Expr-F, Field-F, Place-F}
-use Rattle.cl_ast.specs.declared.tree.Expr.TheViews.{out-Field, roll-Expr, roll-Field, outs-Text, outs-Formal, outs-Plain, roll-out-Place, roll-out-Call, roll-out-Operation, roll-out-Formal, roll-out-Chain, roll-out-Link, roll-out-Prefix}
+use Rattle.cl_ast.specs.declared.tree.Expr.TheViews.{out-Field, roll-Expr, roll-Field, roll-Operation, outs-Text, outs-Formal, outs-Plain, roll-out-Place, roll-out-Call, roll-out-Operation, roll-out-Formal, roll-out-Chain, roll-out-Link, roll-out-Prefix}
 use Rattle.cl_types.specs.declared.context.Access.TheVariants as accesses
 use Rattle.cl_types.specs.Findings as findings
 use Rattle.cl_types.specs.Declarations.{Known}
@@ -98,9 +98,11 @@ pub call_is : (x : Call) (known : Known) → call_forms x known ≡ each expr_fo
 unfolding expr_forms place_forms call_forms operation_forms inner_forms chain_forms formal_forms link_forms prefix_forms
 call_is x known = ap (λ y. call_forms y known) (sym (roll-out-Call x)) ∙ (ap (λ (f : Finds). f known) (e.para-roll-Call Finds Finds Finds Finds Finds Finds Finds Finds Finds in_expr in_field in_call in_chain in_formal in_link in_operation in_place in_prefix (out-Call x)) ∙ beside expr_forms (out-Call x).arguments known)
 
-pub operation_is : (x : Operation) (known : Known) → operation_forms x known ≡ own_forms (out-Operation x).fields known ∷ each inner_forms (out-Operation x).fields known
+pub operation_is : (x : Operation) (known : Known) → operation_forms x known ≡ (x, own_forms (out-Operation x).fields known) ∷ each inner_forms (out-Operation x).fields known
 unfolding expr_forms place_forms call_forms operation_forms inner_forms chain_forms formal_forms link_forms prefix_forms
-operation_is x known = ap (λ y. operation_forms y known) (sym (roll-out-Operation x)) ∙ (ap (λ (f : Finds). f known) (e.para-roll-Operation Finds Finds Finds Finds Finds Finds Finds Finds Finds in_expr in_field in_call in_chain in_formal in_link in_operation in_place in_prefix (out-Operation x)) ∙ (ap (λ fs. own_forms fs known ∷ joined (map (λ y. (y, inner_forms y)) (out-Operation x).fields) known) (themselves inner_forms (out-Operation x).fields) ∙ ap (λ ys. own_forms (out-Operation x).fields known ∷ ys) (beside inner_forms (out-Operation x).fields known)))
+operation_is x known = ap (λ y. operation_forms y known) (sym (roll-out-Operation x)) ∙ (ap (λ (f : Finds). f known) (e.para-roll-Operation Finds Finds Finds Finds Finds Finds Finds Finds Finds in_expr in_field in_call in_chain in_formal in_link in_operation in_place in_prefix (out-Operation x)) ∙ (ap (λ fs. (roll-Operation (record { verb = (out-Operation x).verb; fields = fs; span = (out-Operation x).span }), own_forms fs known) ∷ joined (map (λ y. (y, inner_forms y)) (out-Operation x).fields) known) (themselves inner_forms (out-Operation x).fields)
+    ∙ (ap (λ o. (o, own_forms (out-Operation x).fields known) ∷ joined (map (λ y. (y, inner_forms y)) (out-Operation x).fields) known) (roll-out-Operation x)
+    ∙ ap (λ ys. (x, own_forms (out-Operation x).fields known) ∷ ys) (beside inner_forms (out-Operation x).fields known))))
 
 pub chain_is : (x : Chain) (known : Known) → chain_forms x known ≡ expr_forms (out-Chain x).first known ++ each link_forms (out-Chain x).others known
 unfolding expr_forms place_forms call_forms operation_forms inner_forms chain_forms formal_forms link_forms prefix_forms

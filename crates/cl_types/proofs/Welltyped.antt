@@ -39,8 +39,8 @@ use Rattle.cl_types.proofs.Finding as finding
 use Rattle.cl_types.proofs.Clean.{Clean, clean_split, none_found, sites_in, sites_append, quiet_found, narrow_width, place_found, Gives, gives_found, operated_found, negated_found, plain_typed}
 
 -- the fields of one operation
-abbrev pub Fine : List Finding → Type 0
-Fine own = AllByRecursion HasType own × (length own ≤ 16)
+abbrev pub Fine : Operation × List Finding → Type 0
+Fine x = AllByRecursion HasType x.1 × (length x.1 ≤ 16)
 
 -- What holds of what is noted and found in a part: as many operations are noted as are found, and where no fault is noted, A holds too, and the
 -- operations are fine.
@@ -232,8 +232,8 @@ operation_good o ys h known =
     let ks = width_faults (length parts) in
     let narrow : Clean (found_all ks at) → length (own_forms fs known) ≤ 16 =
     λ c. subst (λ n. n ≤ 16) (own_length fs verb known) (narrow_width (length parts) (none_found ks at c)) in
-    let inner = beside (Fine (own_forms fs known)) (found_all ks at) (joined parts) (each inner_forms fs known) (quiet_found ks at) (λ (c : Clean (found_all ks at)) (ts : AllByRecursion HasType (own_forms fs known)). (ts, narrow c)) (subst P h (good_fields ys verb known)) in
-    holds_is (Unit {0}) _ (Site at ∷ (found_all ks at ++ joined parts)) _ (own_forms fs known ∷ each inner_forms fs known) (rules.operation_is o known) (finding.operation_is o known) (λ (u : Unit {0}). tt)
+    let inner = beside (Fine (o, own_forms fs known)) (found_all ks at) (joined parts) (each inner_forms fs known) (quiet_found ks at) (λ (c : Clean (found_all ks at)) (ts : AllByRecursion HasType (own_forms fs known)). (ts, narrow c)) (subst P h (good_fields ys verb known)) in
+    holds_is (Unit {0}) _ (Site at ∷ (found_all ks at ++ joined parts)) _ ((o, own_forms fs known) ∷ each inner_forms fs known) (rules.operation_is o known) (finding.operation_is o known) (λ (u : Unit {0}). tt)
     (record { count = ap suc inner.count; clean = λ (c : Clean (found_all ks at ++ joined parts)). let r = inner.clean c in (tt, (r.0, r.1)) })
 
 -- what holds of a chain so far holds of the whole

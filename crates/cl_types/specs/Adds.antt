@@ -7,14 +7,13 @@ use Rattle.cl_ast.specs.declared.statement.While.{While, out-While}
 use Rattle.cl_ast.specs.declared.statement.Do.{Do, out-Do}
 use Rattle.cl_ast.specs.declared.statement.For.{For, out-For}
 use Rattle.cl_types.specs.Declarations.{Known, enter}
-use Rattle.cl_types.specs.declared.fields.form.FieldForm.{FieldForm}
-use Rattle.cl_types.specs.Findings.{Forms, adds}
+use Rattle.cl_types.specs.Findings.{Forms, Told, adds}
 use Rattle.cl_types.specs.Fields.{Finds, expr_forms}
 use Rattle.cl_types.specs.Gathered.{maybe_forms}
 use Rattle.cl_types.specs.Found.{stmt_forms}
 
 -- the walk leads to what is known, and adds what is found
-pub record Adds (found : Forms) (known now : Known) (before after : List (List FieldForm)) : Type 0 where
+pub record Adds (found : Forms) (known now : Known) (before after : Told) : Type 0 where
   pub known_is : now ≡ known
   pub found_is : after ≡ adds before found
 

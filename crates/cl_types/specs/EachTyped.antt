@@ -1,7 +1,7 @@
 -- What holds of the fields of a tree without faults. (This project.)
 use Rattle.std.specs.Prelude.{◌≤◌, List, length, Option, Some, None}
 use Rattle.std.specs.List.{AllByRecursion}
-use Rattle.cl_types.specs.Findings.{Finding, Text, Constant, Formal, Actual, Forms}
+use Rattle.cl_types.specs.Findings.{Finding, Text, Constant, Formal, Actual, Forms, Told}
 
 abbrev pub IsFound : {A : Type 0} → Option A → Type 0
 IsFound None = ⊥
@@ -16,8 +16,8 @@ HasType (Actual t) = IsFound t
 
 -- that of each field of each operation
 abbrev pub EachTyped : Forms → Type 0
-EachTyped fs = AllByRecursion (AllByRecursion HasType) fs
+EachTyped fs = AllByRecursion (λ x. AllByRecursion HasType x.1) fs
 
 -- each operation has at most 16 fields
-abbrev pub EachNarrow : {A : Type 0} → List (List A) → Type 0
-EachNarrow fs = AllByRecursion (λ own. length own ≤ 16) fs
+abbrev pub EachNarrow : Told → Type 0
+EachNarrow fs = AllByRecursion (λ x. length x.1 ≤ 16) fs

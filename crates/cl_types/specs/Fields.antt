@@ -5,7 +5,7 @@ use Rattle.cl_ast.specs.declared.tree.TypeName.{TypeName}
 use Rattle.cl_ast.specs.declared.tree.Expr.{Expr}
 use Rattle.cl_ast.specs.declared.tree.Place.{Place}
 use Rattle.cl_ast.specs.declared.tree.Call.{Call}
-use Rattle.cl_ast.specs.declared.tree.Operation.{Operation}
+use Rattle.cl_ast.specs.declared.tree.Operation.{Operation, roll-Operation}
 use Rattle.cl_ast.specs.declared.tree.Field.{Field}
 use Rattle.cl_ast.specs.declared.tree.Formal.{Formal, out-Formal}
 use Rattle.cl_ast.specs.declared.tree.Chain.{Chain}
@@ -87,9 +87,13 @@ in_formal formal known = formal.target.1 known
 abbrev pub in_link : Link-F (Expr × Finds) (Field × Finds) (Call × Finds) (Chain × Finds) (Formal × Finds) (Link × Finds) (Operation × Finds) (Place × Finds) (Prefix × Finds) → Finds
 in_link link known = link.operand.1 known
 
+-- the operation that has these parts
+abbrev pub itself : Operation-F (Expr × Finds) (Field × Finds) (Call × Finds) (Chain × Finds) (Formal × Finds) (Link × Finds) (Operation × Finds) (Place × Finds) (Prefix × Finds) → Operation
+itself operation = roll-Operation (record { verb = operation.verb; fields = parts_of operation.fields; span = operation.span })
+
 -- an operation, then those in its fields
 abbrev pub in_operation : Operation-F (Expr × Finds) (Field × Finds) (Call × Finds) (Chain × Finds) (Formal × Finds) (Link × Finds) (Operation × Finds) (Place × Finds) (Prefix × Finds) → Finds
-in_operation operation known = own_forms (parts_of operation.fields) known ∷ joined operation.fields known
+in_operation operation known = (itself operation, own_forms (parts_of operation.fields) known) ∷ joined operation.fields known
 
 abbrev pub in_place : Place-F (Expr × Finds) (Field × Finds) (Call × Finds) (Chain × Finds) (Formal × Finds) (Link × Finds) (Operation × Finds) (Place × Finds) (Prefix × Finds) → Finds
 in_place place known = or_none place.index known

@@ -26,8 +26,7 @@ use Rattle.cl_types.specs.declared.context.Context.{Context}
 use Rattle.cl_types.specs.Declarations.{Known, enter}
 use Rattle.cl_types.specs.Statements.{walked, declarator_walked}
 use Rattle.cl_types.specs.Items.{function_known, parameters_walked, item_walked, known_first}
-use Rattle.cl_types.specs.declared.fields.form.FieldForm.{FieldForm}
-use Rattle.cl_types.specs.Findings.{Forms, told}
+use Rattle.cl_types.specs.Findings.{Forms, Told, told}
 use Rattle.cl_types.specs.Fields.{Finds, expr_forms, place_forms, call_forms, operation_forms}
 use Rattle.cl_types.specs.Gathered.{each, maybe_forms}
 
@@ -162,10 +161,10 @@ item_forms (items.Function f) known = function_forms f known
 abbrev pub item_behind : Item → Known → Known
 item_behind x known = (item_walked x known).known
 
--- what is found of the fields of each operation of a text: one list for each operation, in the order of the text
+-- the operations of a text, each with what is found of its fields, in the order of the text
 abbrev pub findings : List Item → Forms
 findings xs = onward item_forms item_behind xs (known_first xs)
 
 -- what is told of them
-abbrev pub field_forms : List Item → List (List FieldForm)
-field_forms xs = told (findings xs)
+abbrev pub sites_of : List Item → Told
+sites_of xs = told (findings xs)

@@ -26,7 +26,7 @@ use declared::{Declared, FunctionType};
 use directive::Directive;
 pub use expression::MAX_FIELDS;
 pub use fault::{Fault, TypeKind};
-pub use fields::FieldForm;
+pub use fields::{FieldForm, Site};
 use journal::Journal;
 pub use journal::{MAX_FUNCTIONS, MAX_SITES};
 pub use public::{TypeEnd, Typed, check};

@@ -1,6 +1,6 @@
-use crate::fields::field_forms;
+use crate::fields::sites;
 use crate::item::walk;
-use crate::{Fault, FieldForm, TypeKind};
+use crate::{Fault, Site, TypeKind};
 use cl_ast::{Item, Unit};
 use sqlite_items::Items;
 use std::alloc::{AllocError, Global};
@@ -57,7 +57,8 @@ impl Model for Typed {
 impl Typed {
     ghost use Rattle.std.specs.Prelude.{◌≡◌, ◌≤◌, [], length, IfOk};
     ghost use Rattle.cl_types.specs.Unit.{faults};
-    ghost use Rattle.cl_types.specs.Found.{findings, field_forms};
+    ghost use Rattle.cl_types.specs.Found.{findings, sites_of};
+    ghost use Rattle.cl_types.specs.Findings.{seen};
     ghost use Rattle.cl_types.specs.EachTyped.{EachTyped, EachNarrow};
 
     /// The tree. It takes no memory.
@@ -68,16 +69,16 @@ impl Typed {
         &self.tree
     }
 
-    /// What the fields of each operation are: one list for each operation, in the order of the text, and in it one
-    /// form for each of its fields, in order. An operation in a field of another stands behind it. There are at
-    /// most 1,024 operations of at most 16 fields. `AllocError` comes where the allocator refused memory.
-    pub fn field_forms(&self, alloc: Global) -> Result<Items<Items<FieldForm>>, AllocError>
-        ensures forms { IfOk result (λ forms. forms ≡ field_forms self.now.items) }
+    /// The operations of the tree, each with what its fields are, in the order of the text. An operation in a
+    /// field of another stands behind it. There are at most 1,024, of at most 16 fields. `AllocError` comes where
+    /// the allocator refused memory.
+    pub fn sites(&self, alloc: Global) -> Result<Items<Site<'_>>, AllocError>
+        ensures sites { IfOk result (λ sites. seen sites ≡ sites_of self.now.items) }
         ensures typed { EachTyped (findings self.now.items) }
-        ensures narrow { IfOk result (λ forms. EachNarrow forms) }
-        ensures few { IfOk result (λ forms. length forms ≤ 1024) }
+        ensures narrow { EachNarrow (sites_of self.now.items) }
+        ensures few { IfOk result (λ sites. length sites ≤ 1024) }
     {
-        field_forms(self.tree.items.as_slice(), alloc)
+        sites(self.tree.items.as_slice(), alloc)
     }
 }
 

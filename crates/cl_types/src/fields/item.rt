@@ -1,10 +1,11 @@
 ghost use Rattle.std.specs.Prelude.{◌≡◌, OnOk, IfOk};
-ghost use Rattle.cl_types.specs.Found.{function_forms, item_forms, item_behind, onward, field_forms};
+ghost use Rattle.cl_types.specs.Found.{function_forms, item_forms, item_behind, onward, sites_of};
+ghost use Rattle.cl_types.specs.Findings.{seen};
 ghost use Rattle.cl_types.specs.Items.{function_known};
 ghost use Rattle.cl_types.specs.Adds.{Adds, behind_all};
 ghost use Rattle.cl_types.specs.Walks.{Keeps};
 
-use super::FieldForm;
+use super::Site;
 use super::statement::{block, variables};
 use crate::Journal;
 use crate::item::{declare_function, define, known_first, parameters};
@@ -29,9 +30,9 @@ fn function<'a>(
     part: &'a Function,
     alloc: Global,
     scopes: &mut Scopes<'a>,
-    forms: &mut Items<Items<FieldForm>>,
+    forms: &mut Items<Site<'a>>,
 ) -> Result<(), AllocError>
-    ensures { OnOk result (Adds (function_forms part.now scopes.old) (function_known part.now scopes.old) scopes.new forms.old forms.new) }
+    ensures { OnOk result (Adds (function_forms part.now scopes.old) (function_known part.now scopes.old) scopes.new (seen forms.old) (seen forms.new)) }
 {
     declare_function(part, alloc, scopes)?;
     let outer = scopes.enter();
@@ -48,9 +49,9 @@ fn item<'a>(
     part: &'a Item,
     alloc: Global,
     scopes: &mut Scopes<'a>,
-    forms: &mut Items<Items<FieldForm>>,
+    forms: &mut Items<Site<'a>>,
 ) -> Result<(), AllocError>
-    ensures { OnOk result (Adds (item_forms part.now scopes.old) (item_behind part.now scopes.old) scopes.new forms.old forms.new) }
+    ensures { OnOk result (Adds (item_forms part.now scopes.old) (item_behind part.now scopes.old) scopes.new (seen forms.old) (seen forms.new)) }
 {
     match part {
         Item::Define(part) => constant(part, scopes),
@@ -59,9 +60,9 @@ fn item<'a>(
     }
 }
 
-/// What the fields of each operation of a source are, in the order of the text.
-pub fn field_forms(parts: &[Item], alloc: Global) -> Result<Items<Items<FieldForm>>, AllocError>
-    ensures { IfOk result (λ forms. forms ≡ field_forms parts.now) }
+/// The operations of a source, each with what its fields are, in the order of the text.
+pub fn sites(parts: &[Item], alloc: Global) -> Result<Items<Site<'_>>, AllocError>
+    ensures { IfOk result (λ sites. seen sites ≡ sites_of parts.now) }
 {
     let mut scopes = known_first(parts, alloc)?;
     let mut forms = Items::new(alloc);

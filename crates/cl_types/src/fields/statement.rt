@@ -1,12 +1,12 @@
 ghost use Rattle.std.specs.Prelude.{◌≡◌, OnOk};
-ghost use Rattle.cl_types.specs.Findings.{adds};
+ghost use Rattle.cl_types.specs.Findings.{adds, seen};
 ghost use Rattle.cl_types.specs.Declarations.{enter};
 ghost use Rattle.cl_types.specs.Gathered.{maybe_forms};
 ghost use Rattle.cl_types.specs.Found.{change_forms, assign_forms, initial_forms, declarator_forms, variable_behind, variables_forms, printed_forms, known_behind, stmt_forms, block_forms};
 ghost use Rattle.cl_types.specs.Adds.{Adds, behind_all, alone_forms, maybe_stmt_forms, if_parts, while_parts, do_parts, for_parts};
 ghost use Rattle.cl_types.specs.Walks.{Keeps};
 
-use super::FieldForm;
+use super::Site;
 use super::expression::{call, expr, operation, place};
 use crate::declare::declared;
 use crate::scopes::Scopes;
@@ -18,13 +18,13 @@ use sqlite_items::{Boxed, Items};
 use std::alloc::{AllocError, Global};
 
 /// Puts the forms of the operations in an expression that may be left out behind those that are there.
-fn maybe_expr(
-    part: &Option<Expr>,
+fn maybe_expr<'a>(
+    part: &'a Option<Expr>,
     alloc: Global,
     scopes: &Scopes<'_>,
-    forms: &mut Items<Items<FieldForm>>,
+    forms: &mut Items<Site<'a>>,
 ) -> Result<(), AllocError>
-    ensures { OnOk result (forms.new ≡ adds forms.old (maybe_forms part.now scopes.now)) }
+    ensures { OnOk result (seen forms.new ≡ adds (seen forms.old) (maybe_forms part.now scopes.now)) }
 {
     match part {
         None => Ok(()),
@@ -33,13 +33,13 @@ fn maybe_expr(
 }
 
 /// The same of a change of a variable.
-fn change(
-    part: &Change,
+fn change<'a>(
+    part: &'a Change,
     alloc: Global,
     scopes: &Scopes<'_>,
-    forms: &mut Items<Items<FieldForm>>,
+    forms: &mut Items<Site<'a>>,
 ) -> Result<(), AllocError>
-    ensures { OnOk result (forms.new ≡ adds forms.old (change_forms part.now scopes.now)) }
+    ensures { OnOk result (seen forms.new ≡ adds (seen forms.old) (change_forms part.now scopes.now)) }
 {
     match part {
         Change::Set(e) | Change::Add(e) | Change::Subtract(e) | Change::Multiply(e) => {
@@ -50,26 +50,26 @@ fn change(
 }
 
 /// The same of what is changed, and behind it of its change.
-fn assign(
-    part: &Assign,
+fn assign<'a>(
+    part: &'a Assign,
     alloc: Global,
     scopes: &Scopes<'_>,
-    forms: &mut Items<Items<FieldForm>>,
+    forms: &mut Items<Site<'a>>,
 ) -> Result<(), AllocError>
-    ensures { OnOk result (forms.new ≡ adds forms.old (assign_forms part.now scopes.now)) }
+    ensures { OnOk result (seen forms.new ≡ adds (seen forms.old) (assign_forms part.now scopes.now)) }
 {
     place(&part.place, alloc, scopes, forms)?;
     change(&part.change, alloc, scopes, forms)
 }
 
 /// The same of an initial value.
-fn initial(
-    part: &Form,
+fn initial<'a>(
+    part: &'a Form,
     alloc: Global,
     scopes: &Scopes<'_>,
-    forms: &mut Items<Items<FieldForm>>,
+    forms: &mut Items<Site<'a>>,
 ) -> Result<(), AllocError>
-    ensures { OnOk result (forms.new ≡ adds forms.old (initial_forms part.now scopes.now)) }
+    ensures { OnOk result (seen forms.new ≡ adds (seen forms.old) (initial_forms part.now scopes.now)) }
 {
     match part {
         Form::Bare | Form::Array(_) => Ok(()),
@@ -83,9 +83,9 @@ fn declarator<'a>(
     part: &'a Declarator,
     alloc: Global,
     scopes: &mut Scopes<'a>,
-    forms: &mut Items<Items<FieldForm>>,
+    forms: &mut Items<Site<'a>>,
 ) -> Result<(), AllocError>
-    ensures adds { OnOk result (Adds (declarator_forms part.now scopes.old) (variable_behind type_name part.now scopes.old) scopes.new forms.old forms.new) }
+    ensures adds { OnOk result (Adds (declarator_forms part.now scopes.old) (variable_behind type_name part.now scopes.old) scopes.new (seen forms.old) (seen forms.new)) }
     ensures keeps { OnOk result (Keeps scopes.old scopes.new) }
 {
     initial(&part.form, alloc, scopes, forms)?;
@@ -97,9 +97,9 @@ pub fn variables<'a>(
     part: &'a Variables,
     alloc: Global,
     scopes: &mut Scopes<'a>,
-    forms: &mut Items<Items<FieldForm>>,
+    forms: &mut Items<Site<'a>>,
 ) -> Result<(), AllocError>
-    ensures adds { OnOk result (Adds (variables_forms part.now scopes.old) (behind_all (variable_behind part.now.type_name) part.now.declarators scopes.old) scopes.new forms.old forms.new) }
+    ensures adds { OnOk result (Adds (variables_forms part.now scopes.old) (behind_all (variable_behind part.now.type_name) part.now.declarators scopes.old) scopes.new (seen forms.old) (seen forms.new)) }
     ensures keeps { OnOk result (Keeps scopes.old scopes.new) }
 {
     for next in part.declarators.as_slice() {
@@ -109,13 +109,13 @@ pub fn variables<'a>(
 }
 
 /// The same of the arguments of `printf`, one after the other.
-fn printed(
-    parts: &[Spanned],
+fn printed<'a>(
+    parts: &'a [Spanned],
     alloc: Global,
     scopes: &Scopes<'_>,
-    forms: &mut Items<Items<FieldForm>>,
+    forms: &mut Items<Site<'a>>,
 ) -> Result<(), AllocError>
-    ensures { OnOk result (forms.new ≡ adds forms.old (printed_forms parts.now scopes.now)) }
+    ensures { OnOk result (seen forms.new ≡ adds (seen forms.old) (printed_forms parts.now scopes.now)) }
 {
     for part in parts {
         expr(&part.expr, alloc, scopes, forms)?;
@@ -129,9 +129,9 @@ fn statement<'a>(
     part: &'a Stmt,
     alloc: Global,
     scopes: &mut Scopes<'a>,
-    forms: &mut Items<Items<FieldForm>>,
+    forms: &mut Items<Site<'a>>,
 ) -> Result<(), AllocError>
-    ensures adds { OnOk result (Adds (stmt_forms part.now scopes.old) (known_behind part.now scopes.old) scopes.new forms.old forms.new) }
+    ensures adds { OnOk result (Adds (stmt_forms part.now scopes.old) (known_behind part.now scopes.old) scopes.new (seen forms.old) (seen forms.new)) }
     ensures keeps { OnOk result (Keeps scopes.old scopes.new) }
 {
     match part {
@@ -158,9 +158,9 @@ fn choose<'a>(
     part: &'a If,
     alloc: Global,
     scopes: &mut Scopes<'a>,
-    forms: &mut Items<Items<FieldForm>>,
+    forms: &mut Items<Site<'a>>,
 ) -> Result<(), AllocError>
-    ensures { OnOk result (Adds (if_parts part.now scopes.old) scopes.old scopes.new forms.old forms.new) }
+    ensures { OnOk result (Adds (if_parts part.now scopes.old) scopes.old scopes.new (seen forms.old) (seen forms.new)) }
 {
     expr(&part.test, alloc, scopes, forms)?;
     alone(part.yes.get(), alloc, scopes, forms)?;
@@ -173,9 +173,9 @@ fn repeat<'a>(
     part: &'a While,
     alloc: Global,
     scopes: &mut Scopes<'a>,
-    forms: &mut Items<Items<FieldForm>>,
+    forms: &mut Items<Site<'a>>,
 ) -> Result<(), AllocError>
-    ensures { OnOk result (Adds (while_parts part.now scopes.old) scopes.old scopes.new forms.old forms.new) }
+    ensures { OnOk result (Adds (while_parts part.now scopes.old) scopes.old scopes.new (seen forms.old) (seen forms.new)) }
 {
     expr(&part.test, alloc, scopes, forms)?;
     alone(part.body.get(), alloc, scopes, forms)
@@ -187,9 +187,9 @@ fn repeat_first<'a>(
     part: &'a Do,
     alloc: Global,
     scopes: &mut Scopes<'a>,
-    forms: &mut Items<Items<FieldForm>>,
+    forms: &mut Items<Site<'a>>,
 ) -> Result<(), AllocError>
-    ensures { OnOk result (Adds (do_parts part.now scopes.old) scopes.old scopes.new forms.old forms.new) }
+    ensures { OnOk result (Adds (do_parts part.now scopes.old) scopes.old scopes.new (seen forms.old) (seen forms.new)) }
 {
     alone(part.body.get(), alloc, scopes, forms)?;
     expr(&part.test, alloc, scopes, forms)
@@ -201,9 +201,9 @@ fn count<'a>(
     part: &'a For,
     alloc: Global,
     scopes: &mut Scopes<'a>,
-    forms: &mut Items<Items<FieldForm>>,
+    forms: &mut Items<Site<'a>>,
 ) -> Result<(), AllocError>
-    ensures { OnOk result (Adds (for_parts part.now scopes.old) scopes.old scopes.new forms.old forms.new) }
+    ensures { OnOk result (Adds (for_parts part.now scopes.old) scopes.old scopes.new (seen forms.old) (seen forms.new)) }
 {
     maybe(&part.first, alloc, scopes, forms)?;
     maybe_expr(&part.test, alloc, scopes, forms)?;
@@ -217,9 +217,9 @@ fn alone<'a>(
     part: &'a Stmt,
     alloc: Global,
     scopes: &mut Scopes<'a>,
-    forms: &mut Items<Items<FieldForm>>,
+    forms: &mut Items<Site<'a>>,
 ) -> Result<(), AllocError>
-    ensures { OnOk result (Adds (alone_forms part.now scopes.old) scopes.old scopes.new forms.old forms.new) }
+    ensures { OnOk result (Adds (alone_forms part.now scopes.old) scopes.old scopes.new (seen forms.old) (seen forms.new)) }
 {
     let outer = scopes.enter();
     statement(part, alloc, scopes, forms)?;
@@ -233,9 +233,9 @@ fn maybe<'a>(
     part: &'a Option<Boxed<Stmt>>,
     alloc: Global,
     scopes: &mut Scopes<'a>,
-    forms: &mut Items<Items<FieldForm>>,
+    forms: &mut Items<Site<'a>>,
 ) -> Result<(), AllocError>
-    ensures { OnOk result (Adds (maybe_stmt_forms part.now scopes.old) scopes.old scopes.new forms.old forms.new) }
+    ensures { OnOk result (Adds (maybe_stmt_forms part.now scopes.old) scopes.old scopes.new (seen forms.old) (seen forms.new)) }
 {
     match part {
         None => Ok(()),
@@ -249,9 +249,9 @@ fn block_alone<'a>(
     part: &'a Block,
     alloc: Global,
     scopes: &mut Scopes<'a>,
-    forms: &mut Items<Items<FieldForm>>,
+    forms: &mut Items<Site<'a>>,
 ) -> Result<(), AllocError>
-    ensures { OnOk result (Adds (block_forms part.now (enter scopes.old)) scopes.old scopes.new forms.old forms.new) }
+    ensures { OnOk result (Adds (block_forms part.now (enter scopes.old)) scopes.old scopes.new (seen forms.old) (seen forms.new)) }
 {
     let outer = scopes.enter();
     block(part, alloc, scopes, forms)?;
@@ -265,9 +265,9 @@ pub fn block<'a>(
     part: &'a Block,
     alloc: Global,
     scopes: &mut Scopes<'a>,
-    forms: &mut Items<Items<FieldForm>>,
+    forms: &mut Items<Site<'a>>,
 ) -> Result<(), AllocError>
-    ensures found { OnOk result (forms.new ≡ adds forms.old (block_forms part.now scopes.old)) }
+    ensures found { OnOk result (seen forms.new ≡ adds (seen forms.old) (block_forms part.now scopes.old)) }
     ensures keeps { OnOk result (Keeps scopes.old scopes.new) }
 {
     let parts = part.statements.as_slice();

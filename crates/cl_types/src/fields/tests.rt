@@ -37,7 +37,7 @@ fn has_forms(alloc: Global, source: &[u8], wanted: &[&[FieldForm]]) -> bool {
     let Ok(typed) = check(alloc, unit) else {
         return false;
     };
-    let Ok(forms) = typed.field_forms(alloc) else {
+    let Ok(forms) = typed.sites(alloc) else {
         return false;
     };
     if forms.len() != wanted.len() {
@@ -46,7 +46,7 @@ fn has_forms(alloc: Global, source: &[u8], wanted: &[&[FieldForm]]) -> bool {
     for i in 0..wanted.len() {
         match forms.get(i) {
             Some(own) => {
-                if own.as_slice() != wanted[i] {
+                if own.forms.as_slice() != wanted[i] {
                     return false;
                 }
             }
