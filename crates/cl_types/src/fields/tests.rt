@@ -1,5 +1,5 @@
-use super::FieldForm;
 use super::FieldForm::{Actual, Formal, Text};
+use super::{FieldForm, Site};
 use crate::{Number, check};
 use cl_ast::Constant::{Character, Int, Long};
 use cl_ast::{Constant, TypeName};
@@ -23,6 +23,19 @@ const fn minus(literal: Constant) -> FieldForm {
     })
 }
 
+/// Whether the operations have these fields, in their order.
+fn agree(sites: &[Site<'_>], wanted: &[&[FieldForm]]) -> bool {
+    if sites.len() != wanted.len() {
+        return false;
+    }
+    for i in 0..wanted.len() {
+        if sites[i].forms.as_slice() != wanted[i] {
+            return false;
+        }
+    }
+    true
+}
+
 /// Whether a source has operations with these fields, in the order of its text.
 fn has_forms(alloc: Global, source: &[u8], wanted: &[&[FieldForm]]) -> bool {
     if source.len() > 1048576 {
@@ -37,23 +50,10 @@ fn has_forms(alloc: Global, source: &[u8], wanted: &[&[FieldForm]]) -> bool {
     let Ok(typed) = check(alloc, unit) else {
         return false;
     };
-    let Ok(forms) = typed.sites(alloc) else {
-        return false;
-    };
-    if forms.len() != wanted.len() {
-        return false;
+    match typed.sites(alloc) {
+        Ok(sites) => agree(sites.as_slice(), wanted),
+        Err(_) => false,
     }
-    for i in 0..wanted.len() {
-        match forms.get(i) {
-            Some(own) => {
-                if own.forms.as_slice() != wanted[i] {
-                    return false;
-                }
-            }
-            None => return false,
-        }
-    }
-    true
 }
 
 /// Operations with every kind of field, nested ones and a name that hides another.
