@@ -10,24 +10,24 @@ use cl_ast::{Call, Chain, Expr, Field, Operation, Place};
 use sqlite_items::{Boxed, Items};
 use std::alloc::{AllocError, Global};
 
-/// Puts the forms of the operations in an expression behind those that are there.
+/// Puts the operations in an expression, each with what its fields are, behind those that are there.
 #[cycle(gathering)]
 pub fn expr<'a>(
     e: &'a Expr,
     alloc: Global,
     scopes: &Scopes<'_>,
-    forms: &mut Items<Site<'a>>,
+    sites: &mut Items<Site<'a>>,
 ) -> Result<(), AllocError>
-    ensures { OnOk result (seen forms.new ≡ adds (seen forms.old) (expr_forms e.now scopes.now)) }
+    ensures { OnOk result (seen sites.new ≡ adds (seen sites.old) (expr_forms e.now scopes.now)) }
 {
     match e {
         Expr::Literal(_) => Ok(()),
-        Expr::Place(part) => place(part, alloc, scopes, forms),
-        Expr::Call(part) => call(part, alloc, scopes, forms),
-        Expr::Operation(part) => operation(part, alloc, scopes, forms),
-        Expr::Chain(part) => chain(part, alloc, scopes, forms),
-        Expr::Negate(part) => expr(part.operand.get(), alloc, scopes, forms),
-        Expr::Not(part) => expr(part.operand.get(), alloc, scopes, forms),
+        Expr::Place(part) => place(part, alloc, scopes, sites),
+        Expr::Call(part) => call(part, alloc, scopes, sites),
+        Expr::Operation(part) => operation(part, alloc, scopes, sites),
+        Expr::Chain(part) => chain(part, alloc, scopes, sites),
+        Expr::Negate(part) => expr(part.operand.get(), alloc, scopes, sites),
+        Expr::Not(part) => expr(part.operand.get(), alloc, scopes, sites),
     }
 }
 
@@ -37,13 +37,13 @@ fn index<'a>(
     part: &'a Option<Boxed<Expr>>,
     alloc: Global,
     scopes: &Scopes<'_>,
-    forms: &mut Items<Site<'a>>,
+    sites: &mut Items<Site<'a>>,
 ) -> Result<(), AllocError>
-    ensures { OnOk result (seen forms.new ≡ adds (seen forms.old) (maybe_forms part.now scopes.now)) }
+    ensures { OnOk result (seen sites.new ≡ adds (seen sites.old) (maybe_forms part.now scopes.now)) }
 {
     match part {
         None => Ok(()),
-        Some(e) => expr(e.get(), alloc, scopes, forms),
+        Some(e) => expr(e.get(), alloc, scopes, sites),
     }
 }
 
@@ -53,11 +53,11 @@ pub fn place<'a>(
     part: &'a Place,
     alloc: Global,
     scopes: &Scopes<'_>,
-    forms: &mut Items<Site<'a>>,
+    sites: &mut Items<Site<'a>>,
 ) -> Result<(), AllocError>
-    ensures { OnOk result (seen forms.new ≡ adds (seen forms.old) (place_forms part.now scopes.now)) }
+    ensures { OnOk result (seen sites.new ≡ adds (seen sites.old) (place_forms part.now scopes.now)) }
 {
-    index(&part.index, alloc, scopes, forms)
+    index(&part.index, alloc, scopes, sites)
 }
 
 /// The same of a call.
@@ -66,11 +66,11 @@ pub fn call<'a>(
     part: &'a Call,
     alloc: Global,
     scopes: &Scopes<'_>,
-    forms: &mut Items<Site<'a>>,
+    sites: &mut Items<Site<'a>>,
 ) -> Result<(), AllocError>
-    ensures { OnOk result (seen forms.new ≡ adds (seen forms.old) (call_forms part.now scopes.now)) }
+    ensures { OnOk result (seen sites.new ≡ adds (seen sites.old) (call_forms part.now scopes.now)) }
 {
-    arguments(part.arguments.as_slice(), alloc, scopes, forms)
+    arguments(part.arguments.as_slice(), alloc, scopes, sites)
 }
 
 /// The same of arguments, one after the other.
@@ -79,12 +79,12 @@ fn arguments<'a>(
     parts: &'a [Expr],
     alloc: Global,
     scopes: &Scopes<'_>,
-    forms: &mut Items<Site<'a>>,
+    sites: &mut Items<Site<'a>>,
 ) -> Result<(), AllocError>
-    ensures { OnOk result (seen forms.new ≡ adds (seen forms.old) (each expr_forms parts.now scopes.now)) }
+    ensures { OnOk result (seen sites.new ≡ adds (seen sites.old) (each expr_forms parts.now scopes.now)) }
 {
     for i in 0..parts.len() {
-        expr(&parts[i], alloc, scopes, forms)?;
+        expr(&parts[i], alloc, scopes, sites)?;
     }
     Ok(())
 }
@@ -95,16 +95,16 @@ pub fn operation<'a>(
     part: &'a Operation,
     alloc: Global,
     scopes: &Scopes<'_>,
-    forms: &mut Items<Site<'a>>,
+    sites: &mut Items<Site<'a>>,
 ) -> Result<(), AllocError>
-    ensures { OnOk result (seen forms.new ≡ adds (seen forms.old) (operation_forms part.now scopes.now)) }
+    ensures { OnOk result (seen sites.new ≡ adds (seen sites.old) (operation_forms part.now scopes.now)) }
 {
     let own = own_forms(alloc, part.fields.as_slice(), scopes)?;
-    forms.push(Site {
+    sites.push(Site {
         operation: part,
         forms: own,
     })?;
-    fields(part.fields.as_slice(), alloc, scopes, forms)
+    fields(part.fields.as_slice(), alloc, scopes, sites)
 }
 
 /// The same of fields, one after the other.
@@ -113,12 +113,12 @@ fn fields<'a>(
     parts: &'a [Field],
     alloc: Global,
     scopes: &Scopes<'_>,
-    forms: &mut Items<Site<'a>>,
+    sites: &mut Items<Site<'a>>,
 ) -> Result<(), AllocError>
-    ensures { OnOk result (seen forms.new ≡ adds (seen forms.old) (each inner_forms parts.now scopes.now)) }
+    ensures { OnOk result (seen sites.new ≡ adds (seen sites.old) (each inner_forms parts.now scopes.now)) }
 {
     for i in 0..parts.len() {
-        field(&parts[i], alloc, scopes, forms)?;
+        field(&parts[i], alloc, scopes, sites)?;
     }
     Ok(())
 }
@@ -129,14 +129,14 @@ fn field<'a>(
     part: &'a Field,
     alloc: Global,
     scopes: &Scopes<'_>,
-    forms: &mut Items<Site<'a>>,
+    sites: &mut Items<Site<'a>>,
 ) -> Result<(), AllocError>
-    ensures { OnOk result (seen forms.new ≡ adds (seen forms.old) (inner_forms part.now scopes.now)) }
+    ensures { OnOk result (seen sites.new ≡ adds (seen sites.old) (inner_forms part.now scopes.now)) }
 {
     match part {
         Field::Text(_) => Ok(()),
-        Field::Formal(part) => place(&part.target, alloc, scopes, forms),
-        Field::Plain(e) => expr(e, alloc, scopes, forms),
+        Field::Formal(part) => place(&part.target, alloc, scopes, sites),
+        Field::Plain(e) => expr(e, alloc, scopes, sites),
     }
 }
 
@@ -146,14 +146,14 @@ fn chain<'a>(
     part: &'a Chain,
     alloc: Global,
     scopes: &Scopes<'_>,
-    forms: &mut Items<Site<'a>>,
+    sites: &mut Items<Site<'a>>,
 ) -> Result<(), AllocError>
-    ensures { OnOk result (seen forms.new ≡ adds (seen forms.old) (chain_forms part.now scopes.now)) }
+    ensures { OnOk result (seen sites.new ≡ adds (seen sites.old) (chain_forms part.now scopes.now)) }
 {
-    expr(part.first.get(), alloc, scopes, forms)?;
+    expr(part.first.get(), alloc, scopes, sites)?;
     let links = part.others.as_slice();
     for i in 0..links.len() {
-        expr(&links[i].operand, alloc, scopes, forms)?;
+        expr(&links[i].operand, alloc, scopes, sites)?;
     }
     Ok(())
 }

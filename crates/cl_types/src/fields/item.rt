@@ -25,21 +25,22 @@ fn constant<'a>(part: &'a Define, scopes: &mut Scopes<'a>) -> Result<(), AllocEr
 
 ghost use Rattle.cl_types.specs.Items.{define_walked};
 
-/// Puts the forms of the operations in a function behind those that are there, and makes it known.
+/// Puts the operations in a function, each with what its fields are, behind those that are there, and makes the
+/// function known.
 fn function<'a>(
     part: &'a Function,
     alloc: Global,
     scopes: &mut Scopes<'a>,
-    forms: &mut Items<Site<'a>>,
+    sites: &mut Items<Site<'a>>,
 ) -> Result<(), AllocError>
-    ensures { OnOk result (Adds (function_forms part.now scopes.old) (function_known part.now scopes.old) scopes.new (seen forms.old) (seen forms.new)) }
+    ensures { OnOk result (Adds (function_forms part.now scopes.old) (function_known part.now scopes.old) scopes.new (seen sites.old) (seen sites.new)) }
 {
     declare_function(part, alloc, scopes)?;
     let outer = scopes.enter();
     // What is noted of parameters was judged before.
     let mut journal = Journal::new();
     parameters(part.parameters.as_slice(), scopes, &mut journal)?;
-    block(&part.body, alloc, scopes, forms)?;
+    block(&part.body, alloc, scopes, sites)?;
     scopes.leave(outer);
     Ok(())
 }
@@ -49,14 +50,14 @@ fn item<'a>(
     part: &'a Item,
     alloc: Global,
     scopes: &mut Scopes<'a>,
-    forms: &mut Items<Site<'a>>,
+    sites: &mut Items<Site<'a>>,
 ) -> Result<(), AllocError>
-    ensures { OnOk result (Adds (item_forms part.now scopes.old) (item_behind part.now scopes.old) scopes.new (seen forms.old) (seen forms.new)) }
+    ensures { OnOk result (Adds (item_forms part.now scopes.old) (item_behind part.now scopes.old) scopes.new (seen sites.old) (seen sites.new)) }
 {
     match part {
         Item::Define(part) => constant(part, scopes),
-        Item::Variables(part) => variables(part, alloc, scopes, forms),
-        Item::Function(part) => function(part, alloc, scopes, forms),
+        Item::Variables(part) => variables(part, alloc, scopes, sites),
+        Item::Function(part) => function(part, alloc, scopes, sites),
     }
 }
 
@@ -65,9 +66,9 @@ pub fn sites(parts: &[Item], alloc: Global) -> Result<Items<Site<'_>>, AllocErro
     ensures { IfOk result (λ sites. seen sites ≡ sites_of parts.now) }
 {
     let mut scopes = known_first(parts, alloc)?;
-    let mut forms = Items::new(alloc);
+    let mut sites = Items::new(alloc);
     for part in parts {
-        item(part, alloc, &mut scopes, &mut forms)?;
+        item(part, alloc, &mut scopes, &mut sites)?;
     }
-    Ok(forms)
+    Ok(sites)
 }

@@ -17,18 +17,19 @@ use cl_ast::{
 use sqlite_items::{Boxed, Items};
 use std::alloc::{AllocError, Global};
 
-/// Puts the forms of the operations in an expression that may be left out behind those that are there.
+/// Puts the operations in an expression that may be left out, each with what its fields are, behind those that
+/// are there.
 fn maybe_expr<'a>(
     part: &'a Option<Expr>,
     alloc: Global,
     scopes: &Scopes<'_>,
-    forms: &mut Items<Site<'a>>,
+    sites: &mut Items<Site<'a>>,
 ) -> Result<(), AllocError>
-    ensures { OnOk result (seen forms.new ≡ adds (seen forms.old) (maybe_forms part.now scopes.now)) }
+    ensures { OnOk result (seen sites.new ≡ adds (seen sites.old) (maybe_forms part.now scopes.now)) }
 {
     match part {
         None => Ok(()),
-        Some(e) => expr(e, alloc, scopes, forms),
+        Some(e) => expr(e, alloc, scopes, sites),
     }
 }
 
@@ -37,13 +38,13 @@ fn change<'a>(
     part: &'a Change,
     alloc: Global,
     scopes: &Scopes<'_>,
-    forms: &mut Items<Site<'a>>,
+    sites: &mut Items<Site<'a>>,
 ) -> Result<(), AllocError>
-    ensures { OnOk result (seen forms.new ≡ adds (seen forms.old) (change_forms part.now scopes.now)) }
+    ensures { OnOk result (seen sites.new ≡ adds (seen sites.old) (change_forms part.now scopes.now)) }
 {
     match part {
         Change::Set(e) | Change::Add(e) | Change::Subtract(e) | Change::Multiply(e) => {
-            expr(e, alloc, scopes, forms)
+            expr(e, alloc, scopes, sites)
         }
         Change::Increment | Change::Decrement => Ok(()),
     }
@@ -54,12 +55,12 @@ fn assign<'a>(
     part: &'a Assign,
     alloc: Global,
     scopes: &Scopes<'_>,
-    forms: &mut Items<Site<'a>>,
+    sites: &mut Items<Site<'a>>,
 ) -> Result<(), AllocError>
-    ensures { OnOk result (seen forms.new ≡ adds (seen forms.old) (assign_forms part.now scopes.now)) }
+    ensures { OnOk result (seen sites.new ≡ adds (seen sites.old) (assign_forms part.now scopes.now)) }
 {
-    place(&part.place, alloc, scopes, forms)?;
-    change(&part.change, alloc, scopes, forms)
+    place(&part.place, alloc, scopes, sites)?;
+    change(&part.change, alloc, scopes, sites)
 }
 
 /// The same of an initial value.
@@ -67,13 +68,13 @@ fn initial<'a>(
     part: &'a Form,
     alloc: Global,
     scopes: &Scopes<'_>,
-    forms: &mut Items<Site<'a>>,
+    sites: &mut Items<Site<'a>>,
 ) -> Result<(), AllocError>
-    ensures { OnOk result (seen forms.new ≡ adds (seen forms.old) (initial_forms part.now scopes.now)) }
+    ensures { OnOk result (seen sites.new ≡ adds (seen sites.old) (initial_forms part.now scopes.now)) }
 {
     match part {
         Form::Bare | Form::Array(_) => Ok(()),
-        Form::Value(value) => expr(&value.expr, alloc, scopes, forms),
+        Form::Value(value) => expr(&value.expr, alloc, scopes, sites),
     }
 }
 
@@ -83,12 +84,12 @@ fn declarator<'a>(
     part: &'a Declarator,
     alloc: Global,
     scopes: &mut Scopes<'a>,
-    forms: &mut Items<Site<'a>>,
+    sites: &mut Items<Site<'a>>,
 ) -> Result<(), AllocError>
-    ensures adds { OnOk result (Adds (declarator_forms part.now scopes.old) (variable_behind type_name part.now scopes.old) scopes.new (seen forms.old) (seen forms.new)) }
+    ensures adds { OnOk result (Adds (declarator_forms part.now scopes.old) (variable_behind type_name part.now scopes.old) scopes.new (seen sites.old) (seen sites.new)) }
     ensures keeps { OnOk result (Keeps scopes.old scopes.new) }
 {
-    initial(&part.form, alloc, scopes, forms)?;
+    initial(&part.form, alloc, scopes, sites)?;
     scopes.declare(part.name.bytes.as_slice(), declared(type_name, &part.form))
 }
 
@@ -97,13 +98,13 @@ pub fn variables<'a>(
     part: &'a Variables,
     alloc: Global,
     scopes: &mut Scopes<'a>,
-    forms: &mut Items<Site<'a>>,
+    sites: &mut Items<Site<'a>>,
 ) -> Result<(), AllocError>
-    ensures adds { OnOk result (Adds (variables_forms part.now scopes.old) (behind_all (variable_behind part.now.type_name) part.now.declarators scopes.old) scopes.new (seen forms.old) (seen forms.new)) }
+    ensures adds { OnOk result (Adds (variables_forms part.now scopes.old) (behind_all (variable_behind part.now.type_name) part.now.declarators scopes.old) scopes.new (seen sites.old) (seen sites.new)) }
     ensures keeps { OnOk result (Keeps scopes.old scopes.new) }
 {
     for next in part.declarators.as_slice() {
-        declarator(part.type_name, next, alloc, scopes, forms)?;
+        declarator(part.type_name, next, alloc, scopes, sites)?;
     }
     Ok(())
 }
@@ -113,12 +114,12 @@ fn printed<'a>(
     parts: &'a [Spanned],
     alloc: Global,
     scopes: &Scopes<'_>,
-    forms: &mut Items<Site<'a>>,
+    sites: &mut Items<Site<'a>>,
 ) -> Result<(), AllocError>
-    ensures { OnOk result (seen forms.new ≡ adds (seen forms.old) (printed_forms parts.now scopes.now)) }
+    ensures { OnOk result (seen sites.new ≡ adds (seen sites.old) (printed_forms parts.now scopes.now)) }
 {
     for part in parts {
-        expr(&part.expr, alloc, scopes, forms)?;
+        expr(&part.expr, alloc, scopes, sites)?;
     }
     Ok(())
 }
@@ -129,26 +130,26 @@ fn statement<'a>(
     part: &'a Stmt,
     alloc: Global,
     scopes: &mut Scopes<'a>,
-    forms: &mut Items<Site<'a>>,
+    sites: &mut Items<Site<'a>>,
 ) -> Result<(), AllocError>
-    ensures adds { OnOk result (Adds (stmt_forms part.now scopes.old) (known_behind part.now scopes.old) scopes.new (seen forms.old) (seen forms.new)) }
+    ensures adds { OnOk result (Adds (stmt_forms part.now scopes.old) (known_behind part.now scopes.old) scopes.new (seen sites.old) (seen sites.new)) }
     ensures keeps { OnOk result (Keeps scopes.old scopes.new) }
 {
     match part {
-        Stmt::Block(part) => block_alone(part, alloc, scopes, forms),
+        Stmt::Block(part) => block_alone(part, alloc, scopes, sites),
         Stmt::Empty(_) => Ok(()),
-        Stmt::Variables(part) => variables(part, alloc, scopes, forms),
-        Stmt::Assign(part) => assign(part, alloc, scopes, forms),
-        Stmt::Call(part) => call(part, alloc, scopes, forms),
-        Stmt::Operation(part) => operation(part, alloc, scopes, forms),
-        Stmt::Print(part) => printed(part.arguments.as_slice(), alloc, scopes, forms),
-        Stmt::If(part) => choose(part, alloc, scopes, forms),
-        Stmt::While(part) => repeat(part, alloc, scopes, forms),
-        Stmt::Do(part) => repeat_first(part, alloc, scopes, forms),
-        Stmt::For(part) => count(part, alloc, scopes, forms),
+        Stmt::Variables(part) => variables(part, alloc, scopes, sites),
+        Stmt::Assign(part) => assign(part, alloc, scopes, sites),
+        Stmt::Call(part) => call(part, alloc, scopes, sites),
+        Stmt::Operation(part) => operation(part, alloc, scopes, sites),
+        Stmt::Print(part) => printed(part.arguments.as_slice(), alloc, scopes, sites),
+        Stmt::If(part) => choose(part, alloc, scopes, sites),
+        Stmt::While(part) => repeat(part, alloc, scopes, sites),
+        Stmt::Do(part) => repeat_first(part, alloc, scopes, sites),
+        Stmt::For(part) => count(part, alloc, scopes, sites),
         Stmt::Break(_) => Ok(()),
         Stmt::Continue(_) => Ok(()),
-        Stmt::Return(part) => maybe_expr(&part.value, alloc, scopes, forms),
+        Stmt::Return(part) => maybe_expr(&part.value, alloc, scopes, sites),
     }
 }
 
@@ -158,13 +159,13 @@ fn choose<'a>(
     part: &'a If,
     alloc: Global,
     scopes: &mut Scopes<'a>,
-    forms: &mut Items<Site<'a>>,
+    sites: &mut Items<Site<'a>>,
 ) -> Result<(), AllocError>
-    ensures { OnOk result (Adds (if_parts part.now scopes.old) scopes.old scopes.new (seen forms.old) (seen forms.new)) }
+    ensures { OnOk result (Adds (if_parts part.now scopes.old) scopes.old scopes.new (seen sites.old) (seen sites.new)) }
 {
-    expr(&part.test, alloc, scopes, forms)?;
-    alone(part.yes.get(), alloc, scopes, forms)?;
-    maybe(&part.no, alloc, scopes, forms)
+    expr(&part.test, alloc, scopes, sites)?;
+    alone(part.yes.get(), alloc, scopes, sites)?;
+    maybe(&part.no, alloc, scopes, sites)
 }
 
 /// The same of a `while`.
@@ -173,12 +174,12 @@ fn repeat<'a>(
     part: &'a While,
     alloc: Global,
     scopes: &mut Scopes<'a>,
-    forms: &mut Items<Site<'a>>,
+    sites: &mut Items<Site<'a>>,
 ) -> Result<(), AllocError>
-    ensures { OnOk result (Adds (while_parts part.now scopes.old) scopes.old scopes.new (seen forms.old) (seen forms.new)) }
+    ensures { OnOk result (Adds (while_parts part.now scopes.old) scopes.old scopes.new (seen sites.old) (seen sites.new)) }
 {
-    expr(&part.test, alloc, scopes, forms)?;
-    alone(part.body.get(), alloc, scopes, forms)
+    expr(&part.test, alloc, scopes, sites)?;
+    alone(part.body.get(), alloc, scopes, sites)
 }
 
 /// The same of a `do`.
@@ -187,12 +188,12 @@ fn repeat_first<'a>(
     part: &'a Do,
     alloc: Global,
     scopes: &mut Scopes<'a>,
-    forms: &mut Items<Site<'a>>,
+    sites: &mut Items<Site<'a>>,
 ) -> Result<(), AllocError>
-    ensures { OnOk result (Adds (do_parts part.now scopes.old) scopes.old scopes.new (seen forms.old) (seen forms.new)) }
+    ensures { OnOk result (Adds (do_parts part.now scopes.old) scopes.old scopes.new (seen sites.old) (seen sites.new)) }
 {
-    alone(part.body.get(), alloc, scopes, forms)?;
-    expr(&part.test, alloc, scopes, forms)
+    alone(part.body.get(), alloc, scopes, sites)?;
+    expr(&part.test, alloc, scopes, sites)
 }
 
 /// The same of a `for`: of its head, then of its statement.
@@ -201,14 +202,14 @@ fn count<'a>(
     part: &'a For,
     alloc: Global,
     scopes: &mut Scopes<'a>,
-    forms: &mut Items<Site<'a>>,
+    sites: &mut Items<Site<'a>>,
 ) -> Result<(), AllocError>
-    ensures { OnOk result (Adds (for_parts part.now scopes.old) scopes.old scopes.new (seen forms.old) (seen forms.new)) }
+    ensures { OnOk result (Adds (for_parts part.now scopes.old) scopes.old scopes.new (seen sites.old) (seen sites.new)) }
 {
-    maybe(&part.first, alloc, scopes, forms)?;
-    maybe_expr(&part.test, alloc, scopes, forms)?;
-    maybe(&part.step, alloc, scopes, forms)?;
-    alone(part.body.get(), alloc, scopes, forms)
+    maybe(&part.first, alloc, scopes, sites)?;
+    maybe_expr(&part.test, alloc, scopes, sites)?;
+    maybe(&part.step, alloc, scopes, sites)?;
+    alone(part.body.get(), alloc, scopes, sites)
 }
 
 /// The same of a statement in a scope of its own.
@@ -217,12 +218,12 @@ fn alone<'a>(
     part: &'a Stmt,
     alloc: Global,
     scopes: &mut Scopes<'a>,
-    forms: &mut Items<Site<'a>>,
+    sites: &mut Items<Site<'a>>,
 ) -> Result<(), AllocError>
-    ensures { OnOk result (Adds (alone_forms part.now scopes.old) scopes.old scopes.new (seen forms.old) (seen forms.new)) }
+    ensures { OnOk result (Adds (alone_forms part.now scopes.old) scopes.old scopes.new (seen sites.old) (seen sites.new)) }
 {
     let outer = scopes.enter();
-    statement(part, alloc, scopes, forms)?;
+    statement(part, alloc, scopes, sites)?;
     scopes.leave(outer);
     Ok(())
 }
@@ -233,13 +234,13 @@ fn maybe<'a>(
     part: &'a Option<Boxed<Stmt>>,
     alloc: Global,
     scopes: &mut Scopes<'a>,
-    forms: &mut Items<Site<'a>>,
+    sites: &mut Items<Site<'a>>,
 ) -> Result<(), AllocError>
-    ensures { OnOk result (Adds (maybe_stmt_forms part.now scopes.old) scopes.old scopes.new (seen forms.old) (seen forms.new)) }
+    ensures { OnOk result (Adds (maybe_stmt_forms part.now scopes.old) scopes.old scopes.new (seen sites.old) (seen sites.new)) }
 {
     match part {
         None => Ok(()),
-        Some(part) => alone(part.get(), alloc, scopes, forms),
+        Some(part) => alone(part.get(), alloc, scopes, sites),
     }
 }
 
@@ -249,12 +250,12 @@ fn block_alone<'a>(
     part: &'a Block,
     alloc: Global,
     scopes: &mut Scopes<'a>,
-    forms: &mut Items<Site<'a>>,
+    sites: &mut Items<Site<'a>>,
 ) -> Result<(), AllocError>
-    ensures { OnOk result (Adds (block_forms part.now (enter scopes.old)) scopes.old scopes.new (seen forms.old) (seen forms.new)) }
+    ensures { OnOk result (Adds (block_forms part.now (enter scopes.old)) scopes.old scopes.new (seen sites.old) (seen sites.new)) }
 {
     let outer = scopes.enter();
-    block(part, alloc, scopes, forms)?;
+    block(part, alloc, scopes, sites)?;
     scopes.leave(outer);
     Ok(())
 }
@@ -265,14 +266,14 @@ pub fn block<'a>(
     part: &'a Block,
     alloc: Global,
     scopes: &mut Scopes<'a>,
-    forms: &mut Items<Site<'a>>,
+    sites: &mut Items<Site<'a>>,
 ) -> Result<(), AllocError>
-    ensures found { OnOk result (seen forms.new ≡ adds (seen forms.old) (block_forms part.now scopes.old)) }
+    ensures found { OnOk result (seen sites.new ≡ adds (seen sites.old) (block_forms part.now scopes.old)) }
     ensures keeps { OnOk result (Keeps scopes.old scopes.new) }
 {
     let parts = part.statements.as_slice();
     for i in 0..parts.len() {
-        statement(&parts[i], alloc, scopes, forms)?;
+        statement(&parts[i], alloc, scopes, sites)?;
     }
     Ok(())
 }

@@ -8,4 +8,4 @@ use Rattle.cl_types.proofs.fields.statement.assign.Goals as goal
 pub returns : goal.returns
 returns c =
     on_ok c.change.result c.change.ensures (λ h.
-    two_found (seen c.args.forms.now) (place_forms c.args.part.now.place c.args.scopes.now) (change_forms c.args.part.now.change c.args.scopes.now) (seen c.place.new.forms) _ c.in_ok-place.ensures h)
+    two_found (seen c.args.sites.now) (place_forms c.args.part.now.place c.args.scopes.now) (change_forms c.args.part.now.change c.args.scopes.now) (seen c.place.new.sites) _ c.in_ok-place.ensures h)

@@ -8,7 +8,7 @@ pub loop-part-init : goal.loop-part-init
 loop-part-init c = refl
 
 pub loop-part-preserved : goal.loop-part-preserved
-loop-part-preserved c = gathers_on spanned_forms c.args.parts.now c.loop-part.part-index c.part-item.result c.args.scopes.now (seen c.args.forms.now) (seen c.loop-part.forms) _ c.loop-part.invariant (omega arith) c.part-item.is c.in_ok-expr.ensures
+loop-part-preserved c = gathers_on spanned_forms c.args.parts.now c.loop-part.part-index c.part-item.result c.args.scopes.now (seen c.args.sites.now) (seen c.loop-part.sites) _ c.loop-part.invariant (omega arith) c.part-item.is c.in_ok-expr.ensures
 
 pub returns : goal.returns
-returns c = gathers_to spanned_forms c.args.parts.now c.loop-part.part-index c.args.scopes.now (seen c.args.forms.now) (seen c.loop-part.forms) c.loop-part.invariant (omega arith)
+returns c = gathers_to spanned_forms c.args.parts.now c.loop-part.part-index c.args.scopes.now (seen c.args.sites.now) (seen c.loop-part.sites) c.loop-part.invariant (omega arith)

@@ -12,17 +12,17 @@ loop-next-init c = (onward_begins _ _ _ _ _, keeps_itself _)
 
 pub loop-next-preserved : goal.loop-next-preserved
 loop-next-preserved c = (
-  onward_turn declarator_forms (variable_behind c.args.part.now.type_name) c.as_slice-next-items.result.now c.loop-next.next-index c.next-item.result c.args.scopes.now (seen c.args.forms.now) c.loop-next.scopes (seen c.loop-next.forms)
-      c.declarator.new.scopes (seen c.declarator.new.forms) c.loop-next.invariant.0 (omega arith) c.next-item.is c.in_ok-declarator.ensures.adds,
+  onward_turn declarator_forms (variable_behind c.args.part.now.type_name) c.as_slice-next-items.result.now c.loop-next.next-index c.next-item.result c.args.scopes.now (seen c.args.sites.now) c.loop-next.scopes (seen c.loop-next.sites)
+      c.declarator.new.scopes (seen c.declarator.new.sites) c.loop-next.invariant.0 (omega arith) c.next-item.is c.in_ok-declarator.ensures.adds,
   keeps_on c.args.scopes.now c.loop-next.scopes c.declarator.new.scopes c.loop-next.invariant.1 c.in_ok-declarator.ensures.keeps,
 )
 
 pub returns-clause-adds : goal.returns-clause-adds
 returns-clause-adds c =
     let t = c.args.part.now.type_name in
-    let P : List Declarator → Type 0 = λ ds. Adds (onward declarator_forms (variable_behind t) ds c.args.scopes.now) (behind_all (variable_behind t) ds c.args.scopes.now) c.loop-next.scopes (seen c.args.forms.now) (seen c.loop-next.forms) in
+    let P : List Declarator → Type 0 = λ ds. Adds (onward declarator_forms (variable_behind t) ds c.args.scopes.now) (behind_all (variable_behind t) ds c.args.scopes.now) c.loop-next.scopes (seen c.args.sites.now) (seen c.loop-next.sites) in
     subst P c.as_slice-next-items.ensures
-    (onward_ends declarator_forms (variable_behind t) c.as_slice-next-items.result.now c.loop-next.next-index c.args.scopes.now (seen c.args.forms.now) c.loop-next.scopes (seen c.loop-next.forms) c.loop-next.invariant.0 (omega arith))
+    (onward_ends declarator_forms (variable_behind t) c.as_slice-next-items.result.now c.loop-next.next-index c.args.scopes.now (seen c.args.sites.now) c.loop-next.scopes (seen c.loop-next.sites) c.loop-next.invariant.0 (omega arith))
 
 pub returns-clause-keeps : goal.returns-clause-keeps
 returns-clause-keeps c = c.loop-next.invariant.1
