@@ -2,7 +2,7 @@
 -- each field is found.
 use Rattle.std.proofs.Common.{◌≡◌, ◌∙◌, ◌≤◌, ap, sym, refl, subst, ℕ, suc, List, [], ◌∷◌, ◌++◌, map, length, Option, Some, None, Result, Ok, Err, IfOk, arith}
 use Rattle.std.specs.List.{AllByRecursion}
-use Rattle.std.specs.Prelude.{option_map, if◌then◌else◌}
+use Rattle.std.specs.Prelude.{option_map}
 use Rattle.cl_ast.specs.declared.span.Span.{Span}
 use Rattle.cl_ast.specs.declared.tree.Name.{Name}
 use Rattle.cl_ast.specs.declared.tree.TypeName.{TypeName}
@@ -14,10 +14,10 @@ use Rattle.cl_ast.specs.declared.tree.Spanned.{Spanned}
 use Rattle.cl_ast.specs.declared.statement.Stmt.{Stmt}
 use Rattle.cl_ast.specs.declared.statement.Stmt.TheVariants as stmts
 use Rattle.cl_ast.specs.declared.statement.Block.{Block, out-Block}
-use Rattle.cl_ast.specs.declared.statement.Do.{Do, out-Do}
-use Rattle.cl_ast.specs.declared.statement.For.{For, out-For}
-use Rattle.cl_ast.specs.declared.statement.If.{If, out-If}
-use Rattle.cl_ast.specs.declared.statement.While.{While, out-While}
+use Rattle.cl_ast.specs.declared.statement.Do.{Do}
+use Rattle.cl_ast.specs.declared.statement.For.{For}
+use Rattle.cl_ast.specs.declared.statement.If.{If}
+use Rattle.cl_ast.specs.declared.statement.While.{While}
 use Rattle.cl_ast.specs.declared.statement.Stmt.TheFolds as s
 use Rattle.cl_ast.specs.declared.statement.Stmt.TheOpen.{Stmt-F, Block-F, Do-F, For-F, If-F, While-F}
 use Rattle.cl_ast.specs.declared.statement.Stmt.TheViews.{out-Stmt, roll-Stmt, roll-Block, roll-Do, roll-For, roll-If, roll-While, roll-out-Stmt, out-roll-Block, out-roll-Do, out-roll-For, out-roll-If, out-roll-While}
@@ -47,9 +47,9 @@ use Rattle.cl_types.specs.Notes.{Note, found, found_all}
 use Rattle.cl_types.specs.Notes as notes
 use Rattle.cl_types.specs.Numbers.{plain_number}
 use Rattle.cl_types.specs.Declarations.{Known, look_up, is_declared_here, enter, declared_again}
-use Rattle.cl_types.specs.Expressions.{judged, judged_place, judged_call, operation_notes, count_faults, constant_of}
+use Rattle.cl_types.specs.Expressions.{judged, judged_place, count_faults, constant_of}
 use Rattle.cl_types.specs.Formats.{directives_of}
-use Rattle.cl_types.specs.Statements.{Walked, in_order, in_context, in_loop, scoped_notes, maybe_notes, test_notes, size_kind, size_faults, size_notes, initial_faults, initial_notes, form_notes, declarator_walked, variables_walked, change_notes, assign_notes, argument_faults, argument_notes, arguments_notes, print_parts, print_notes, value_return_faults, value_notes, return_notes, leave_notes, walked, block_walked}
+use Rattle.cl_types.specs.Statements.{Walked, in_order, in_context, in_loop, scoped_notes, maybe_notes, test_notes, size_kind, size_faults, size_notes, initial_faults, form_notes, declarator_walked, change_notes, assign_notes, argument_faults, argument_notes, arguments_notes, print_parts, print_notes, value_return_faults, value_notes, leave_notes, walked, block_walked}
 use Rattle.cl_types.specs.Loops.{if_notes, while_notes, do_notes, for_notes}
 use Rattle.cl_types.specs.Items.{function_context, function_known, parameter_walked, parameters_walked, has_main, body_walked, item_walked, items_walked, known_first}
 use Rattle.cl_types.specs.Unit.{main_notes, unit_notes, faults}
@@ -57,14 +57,14 @@ use Rattle.cl_types.specs.declared.fields.site.Site.{Site}
 use Rattle.cl_types.specs.Findings.{Finding, Forms, tell_own, told, seen}
 use Rattle.cl_types.specs.Fields.{expr_forms, place_forms}
 use Rattle.cl_types.specs.Gathered.{each, maybe_forms}
-use Rattle.cl_types.specs.Found.{onward, change_forms, assign_forms, initial_forms, variable_behind, declarator_forms, variables_forms, spanned_forms, printed_forms, anywhere, known_behind, stmt_forms, block_forms, item_forms, item_behind, findings, sites_of}
+use Rattle.cl_types.specs.Found.{onward, change_forms, assign_forms, initial_forms, variable_behind, declarator_forms, printed_forms, anywhere, known_behind, stmt_forms, block_forms, item_forms, item_behind, findings, sites_of}
 use Rattle.cl_types.specs.Adds.{alone_forms, maybe_stmt_forms, if_parts, while_parts, do_parts, for_parts}
-use Rattle.cl_types.specs.EachTyped.{IsFound, HasType, EachTyped, EachNarrow}
+use Rattle.cl_types.specs.EachTyped.{IsFound, EachTyped, EachNarrow}
 use Rattle.cl_types.proofs.Sentences as sentences
 use Rattle.cl_types.proofs.Stating as stating
 use Rattle.cl_types.proofs.Clean.{Clean, clean_unit, sites_in, sites_append, quiet_found, quiet_if, quiet_unless, few_unit}
 use Rattle.cl_types.proofs.Welltyped as parts
-use Rattle.cl_types.proofs.Welltyped.{Fine, Holds, Sound, holds_is, nothing}
+use Rattle.cl_types.proofs.Welltyped.{Fine, Sound, holds_is, nothing}
 use Rattle.cl_types.proofs.Inductions.{every_expr, every_place, every_call, every_operation}
 
 -- ---- two parts

@@ -16,13 +16,13 @@ use Rattle.cl_ast.specs.declared.tree.Chain.{Chain, out-Chain}
 use Rattle.cl_ast.specs.declared.tree.Link.{Link, out-Link}
 use Rattle.cl_ast.specs.declared.tree.Prefix.{Prefix, out-Prefix}
 use Rattle.cl_ast.specs.declared.tree.Expr.TheFolds as e
-use Rattle.cl_ast.specs.declared.tree.Expr.TheOpen.{Expr-F, Field-F, Place-F}
-use Rattle.cl_ast.specs.declared.tree.Expr.TheViews.{out-Field, roll-Expr, roll-Field, roll-Operation, outs-Text, outs-Formal, outs-Plain, roll-out-Place, roll-out-Call, roll-out-Operation, roll-out-Formal, roll-out-Chain, roll-out-Link, roll-out-Prefix}
+use Rattle.cl_ast.specs.declared.tree.Expr.TheOpen.{Expr-F, Field-F}
+use Rattle.cl_ast.specs.declared.tree.Expr.TheViews.{roll-Operation, outs-Text, outs-Formal, outs-Plain, roll-out-Place, roll-out-Call, roll-out-Operation, roll-out-Formal, roll-out-Chain, roll-out-Link, roll-out-Prefix}
 use Rattle.cl_types.specs.declared.context.Access.TheVariants as accesses
 use Rattle.cl_types.specs.Findings as findings
 use Rattle.cl_types.specs.Declarations.{Known}
 use Rattle.cl_types.specs.Expressions.{judged, judged_place, constant_of}
-use Rattle.cl_types.specs.Fields.{plain_form, form_rule, field_form, own_forms, Finds, joined, or_none, parts_of, in_expr, in_field, in_call, in_chain, in_formal, in_link, in_operation, in_place, in_prefix, expr_forms, place_forms, call_forms, operation_forms, inner_forms, chain_forms, formal_forms, link_forms, prefix_forms}
+use Rattle.cl_types.specs.Fields.{plain_form, form_rule, field_form, own_forms, Finds, joined, parts_of, in_expr, in_field, in_call, in_chain, in_formal, in_link, in_operation, in_place, in_prefix, expr_forms, place_forms, call_forms, operation_forms, inner_forms, chain_forms, formal_forms, link_forms, prefix_forms}
 use Rattle.cl_types.specs.Gathered.{each, maybe_forms}
 
 -- ---- one field

@@ -1,19 +1,19 @@
 -- By induction on expressions: where no fault is noted, types are found.
-use Rattle.std.proofs.Common.{◌≡◌, ◌∙◌, ap, sym, refl, subst, map, Option, Some, None}
+use Rattle.std.proofs.Common.{◌≡◌, ◌∙◌, ap, sym, refl, subst, Option, Some, None}
 use Rattle.std.specs.Prelude.{option_map}
 use Rattle.cl_ast.specs.declared.span.Span.{Span}
 use Rattle.cl_ast.specs.declared.tree.Name.{Name}
 use Rattle.cl_ast.specs.declared.tree.Expr.{Expr}
 use Rattle.cl_ast.specs.declared.tree.Expr.TheVariants as exprs
-use Rattle.cl_ast.specs.declared.tree.Place.{Place, out-Place}
-use Rattle.cl_ast.specs.declared.tree.Call.{Call, out-Call}
-use Rattle.cl_ast.specs.declared.tree.Operation.{Operation, out-Operation}
+use Rattle.cl_ast.specs.declared.tree.Place.{Place}
+use Rattle.cl_ast.specs.declared.tree.Call.{Call}
+use Rattle.cl_ast.specs.declared.tree.Operation.{Operation}
 use Rattle.cl_ast.specs.declared.tree.Field.{Field}
 use Rattle.cl_ast.specs.declared.tree.Field.TheVariants as fields
-use Rattle.cl_ast.specs.declared.tree.Formal.{Formal, out-Formal}
-use Rattle.cl_ast.specs.declared.tree.Chain.{Chain, out-Chain}
-use Rattle.cl_ast.specs.declared.tree.Link.{Link, out-Link}
-use Rattle.cl_ast.specs.declared.tree.Prefix.{Prefix, out-Prefix}
+use Rattle.cl_ast.specs.declared.tree.Formal.{Formal}
+use Rattle.cl_ast.specs.declared.tree.Chain.{Chain}
+use Rattle.cl_ast.specs.declared.tree.Link.{Link}
+use Rattle.cl_ast.specs.declared.tree.Prefix.{Prefix}
 use Rattle.cl_ast.specs.declared.tree.Expr.TheFolds as e
 use Rattle.cl_ast.specs.declared.tree.Expr.TheOpen.{Expr-F, Field-F, Call-F, Chain-F, Formal-F, Link-F, Operation-F, Place-F, Prefix-F}
 use Rattle.cl_ast.specs.declared.tree.Expr.TheViews.{roll-Expr, roll-Field, roll-Call, roll-Chain, roll-Formal, roll-Link, roll-Operation, roll-Place, roll-Prefix, out-roll-Call, out-roll-Chain, out-roll-Formal, out-roll-Link, out-roll-Operation, out-roll-Place, out-roll-Prefix}

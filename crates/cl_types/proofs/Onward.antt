@@ -3,7 +3,6 @@ use Rattle.std.proofs.Common.{◌≡◌, ◌∙◌, ◌<◌, ◌≤◌, ◌+◌,
 use Rattle.cl_types.specs.Declarations.{Known, enter}
 use Rattle.cl_types.specs.Tables.{left}
 use Rattle.cl_types.specs.Walks.{Keeps}
-use Rattle.cl_types.specs.declared.fields.form.FieldForm.{FieldForm}
 use Rattle.cl_types.specs.Findings.{Forms, Told, adds}
 use Rattle.cl_types.specs.Fields.{Finds}
 use Rattle.cl_types.specs.Found.{onward}

@@ -1,14 +1,11 @@
 -- In an expression each operation is noted and found once. Where no fault is noted in it, its type is found and so is that of each field of the
 -- operations in it, none of which has more than 16.
-use Rattle.std.proofs.Common.{◌≡◌, ◌∙◌, ◌≤◌, ap, sym, refl, subst, ℕ, suc, List, [], ◌∷◌, ◌++◌, map, length, length-append, Option, Some, None, append_assoc, arith}
+use Rattle.std.proofs.Common.{◌≡◌, ◌∙◌, ◌≤◌, ap, sym, refl, subst, suc, List, [], ◌∷◌, ◌++◌, map, length, length-append, Option, Some, None, append_assoc, arith}
 use Rattle.std.proofs.lemmas.List.{append-nil}
 use Rattle.std.specs.List.{AllByRecursion}
 use Rattle.std.specs.Prelude.{option_map}
-use Rattle.cl_ast.specs.declared.span.Span.{Span}
 use Rattle.cl_ast.specs.declared.tree.Literal.{Literal}
-use Rattle.cl_ast.specs.declared.tree.Name.{Name}
 use Rattle.cl_ast.specs.declared.tree.Text.{Text}
-use Rattle.cl_ast.specs.declared.tree.TypeName.{TypeName}
 use Rattle.cl_ast.specs.declared.tree.Verb.{Verb}
 use Rattle.cl_ast.specs.declared.tree.Expr.{Expr}
 use Rattle.cl_ast.specs.declared.tree.Expr.TheVariants as exprs
@@ -29,7 +26,7 @@ use Rattle.cl_types.specs.Notes.{Note, Site, found_all}
 use Rattle.cl_types.specs.Types.{literal_type, negated_type}
 use Rattle.cl_types.specs.Declarations.{Known, look_up}
 use Rattle.cl_ast.specs.declared.tree.TypeName.TheVariants as types
-use Rattle.cl_types.specs.Expressions.{Judged, LinkJudges, no_notes, judged_name, judged_called, place_faults, is_indexed, index_notes, call_faults, width_faults, formal_faults, notes_of, joined, all_judged, all_noted, judged_link, chained, judged, judged_place, judged_call, judged_chain, judged_operand, operation_notes, field_notes, formal_notes, constant_of}
+use Rattle.cl_types.specs.Expressions.{Judged, LinkJudges, no_notes, judged_name, judged_called, place_faults, is_indexed, index_notes, call_faults, width_faults, formal_faults, notes_of, joined, all_judged, all_noted, judged_link, chained, judged, judged_place, judged_call, judged_chain, judged_operand, operation_notes, field_notes, constant_of}
 use Rattle.cl_types.specs.Findings.{Finding, Forms}
 use Rattle.cl_types.specs.Fields.{field_form, own_forms, expr_forms, place_forms, call_forms, operation_forms, inner_forms, chain_forms, link_forms}
 use Rattle.cl_types.specs.Gathered.{each, maybe_forms}

@@ -1,5 +1,5 @@
 -- What holds of the fields of a tree without faults. (This project.)
-use Rattle.std.specs.Prelude.{◌≤◌, List, length, Option, Some, None}
+use Rattle.std.specs.Prelude.{◌≤◌, length, Option, Some, None}
 use Rattle.std.specs.List.{AllByRecursion}
 use Rattle.cl_types.specs.Findings.{Finding, Text, Constant, Formal, Actual, Forms, Told}
 

@@ -1,9 +1,8 @@
 ghost use Rattle.std.specs.Prelude.{◌≡◌, OnOk, IfOk};
-ghost use Rattle.cl_types.specs.Found.{function_forms, item_forms, item_behind, onward, sites_of};
+ghost use Rattle.cl_types.specs.Found.{function_forms, item_forms, item_behind, sites_of};
 ghost use Rattle.cl_types.specs.Findings.{seen};
 ghost use Rattle.cl_types.specs.Items.{function_known};
-ghost use Rattle.cl_types.specs.Adds.{Adds, behind_all};
-ghost use Rattle.cl_types.specs.Walks.{Keeps};
+ghost use Rattle.cl_types.specs.Adds.{Adds};
 
 use super::Site;
 use super::statement::{block, variables};

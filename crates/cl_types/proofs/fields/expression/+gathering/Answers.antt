@@ -1,9 +1,8 @@
 use Rattle.std.proofs.Common.{◌∙◌, ap, sym, refl, arith}
 use Rattle.cl_ast.specs.declared.tree.Link.{out-Link}
-use Rattle.cl_ast.specs.declared.tree.Operation.{out-Operation}
 use Rattle.cl_types.specs.Findings.{tell_own, adds, seen}
-use Rattle.cl_types.specs.Fields.{own_forms, expr_forms, place_forms, call_forms, inner_forms}
-use Rattle.cl_types.specs.Gathered.{each, maybe_forms}
+use Rattle.cl_types.specs.Fields.{own_forms, expr_forms, inner_forms}
+use Rattle.cl_types.specs.Gathered.{each}
 use Rattle.cl_types.proofs.Walking.{on_ok}
 use Rattle.cl_types.proofs.Finding.{of_literal, of_place, of_call, of_operation, of_chain, of_negate, of_not, of_text, of_formal, of_plain, place_is, call_is}
 use Rattle.cl_types.proofs.Gathering.{otherwise, nothing_found, gathers_on, gathers_to, pushed, operation_ends, chain_begins, links_on, links_end}

@@ -1,6 +1,6 @@
 use Rattle.std.proofs.Common.{◌∙◌, ap, refl}
 use Rattle.cl_types.specs.declared.fields.form.FieldForm.TheVariants as forms
-use Rattle.cl_types.specs.Expressions.{judged, constant_of}
+use Rattle.cl_types.specs.Expressions.{constant_of}
 use Rattle.cl_types.specs.Findings.{found_type, tell}
 use Rattle.cl_types.specs.Fields.{plain_form}
 use Rattle.cl_types.proofs.Finding.{text_form, formal_form, expr_form}

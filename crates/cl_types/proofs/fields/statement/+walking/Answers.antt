@@ -4,7 +4,6 @@ use Rattle.cl_ast.specs.declared.statement.While.{out-While}
 use Rattle.cl_ast.specs.declared.statement.Do.{out-Do}
 use Rattle.cl_ast.specs.declared.statement.For.{out-For}
 use Rattle.cl_ast.specs.declared.statement.Stmt.{Stmt}
-use Rattle.cl_ast.specs.declared.statement.Block.{out-Block}
 use Rattle.cl_types.specs.Declarations.{Known}
 use Rattle.cl_types.specs.Findings.{adds, seen}
 use Rattle.cl_types.specs.Fields.{Finds, expr_forms}
