@@ -1,5 +1,5 @@
--- What is found of the fields of operations, and what is told of it. (Gelernter 1985; that a type that isn't found is told as `int`, which no tree
--- without faults has: this project.)
+-- What is found of the fields of operations, and what is told of it. (Gelernter 1985; that `int` is told where no type is found, which no tree
+-- without faults knows: this project.)
 use Rattle.std.specs.Prelude.{List, [], ◌∷◌, ◌++◌, map, Option, Some, None}
 use Rattle.cl_ast.specs.declared.tree.TypeName.{TypeName}
 use Rattle.cl_ast.specs.declared.tree.TypeName.TheVariants as types
