@@ -1,9 +1,15 @@
+pub mod Adds
 pub mod Declarations
+pub mod EachTyped
 pub mod Ends
 pub mod Expressions
 pub mod Faults
+pub mod Fields
+pub mod Findings
 pub mod Folds
 pub mod Formats
+pub mod Found
+pub mod Gathered
 pub mod Items
 pub mod Journals
 pub mod Loops

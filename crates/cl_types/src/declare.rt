@@ -130,7 +130,7 @@ fn form(reach: Reach, type_name: TypeName, form: &Form, scopes: &Scopes<'_>, jou
 }
 
 /// What a variable is declared as.
-fn declared(type_name: TypeName, form: &Form) -> Declared
+pub fn declared(type_name: TypeName, form: &Form) -> Declared
     ensures { result ≡ form_declared type_name form.now }
 {
     match form {

@@ -34,7 +34,7 @@ fn function_type(alloc: Global, part: &Function) -> Result<FunctionType, AllocEr
 }
 
 /// Declares a constant.
-fn define<'a>(
+pub fn define<'a>(
     part: &'a Define,
     scopes: &mut Scopes<'a>,
     journal: &mut Journal,
@@ -64,7 +64,7 @@ fn parameter<'a>(
 }
 
 /// Declares parameters, one after the other.
-fn parameters<'a>(
+pub fn parameters<'a>(
     parts: &'a [Parameter],
     scopes: &mut Scopes<'a>,
     journal: &mut Journal,
@@ -97,7 +97,7 @@ fn body<'a>(
 }
 
 /// Declares a function where it stands.
-fn declare_function<'a>(
+pub fn declare_function<'a>(
     part: &'a Function,
     alloc: Global,
     scopes: &mut Scopes<'a>,
@@ -200,7 +200,7 @@ fn add_items<'a>(
 }
 
 /// What is known at the beginning of a source: its functions.
-fn known_first<'a>(parts: &'a [Item], alloc: Global) -> Result<Scopes<'a>, AllocError>
+pub fn known_first<'a>(parts: &'a [Item], alloc: Global) -> Result<Scopes<'a>, AllocError>
     ensures { IfOk result (λ scopes. scopes ≡ known_first parts.now) }
 {
     let mut scopes = Scopes::new(alloc);

@@ -1,6 +1,7 @@
-//! Scopes, types of expressions and the faults of a tree.
+//! Scopes, types of expressions, the faults of a tree, and what the fields of its operations are.
 //!
-//! `specs/` lists all faults of a tree by a walk in the order of its text.
+//! `specs/` lists all faults of a tree by a walk in the order of its text, and what the fields are in the same
+//! order.
 #![tactic(auto)]
 
 mod context;
@@ -9,6 +10,7 @@ mod declared;
 mod directive;
 mod expression;
 mod fault;
+mod fields;
 mod format;
 mod item;
 mod journal;
@@ -19,10 +21,12 @@ mod scopes;
 mod statement;
 
 use context::{Access, Context, Purpose, Reach};
-use declared::{Declared, FunctionType, Number};
+pub use declared::Number;
+use declared::{Declared, FunctionType};
 use directive::Directive;
 pub use expression::MAX_FIELDS;
 pub use fault::{Fault, TypeKind};
+pub use fields::{FieldForm, Site};
 use journal::Journal;
 pub use journal::{MAX_FUNCTIONS, MAX_SITES};
 pub use public::{TypeEnd, Typed, check};

@@ -1,6 +1,8 @@
+use crate::fields::sites;
 use crate::item::walk;
-use crate::{Fault, TypeKind};
+use crate::{Fault, Site, TypeKind};
 use cl_ast::{Item, Unit};
+use sqlite_items::Items;
 use std::alloc::{AllocError, Global};
 use std::marker::Model;
 
@@ -53,8 +55,11 @@ impl Model for Typed {
 }
 
 impl Typed {
-    ghost use Rattle.std.specs.Prelude.{◌≡◌, []};
+    ghost use Rattle.std.specs.Prelude.{◌≡◌, ◌≤◌, [], length, IfOk};
     ghost use Rattle.cl_types.specs.Unit.{faults};
+    ghost use Rattle.cl_types.specs.Found.{findings, sites_of};
+    ghost use Rattle.cl_types.specs.Findings.{seen};
+    ghost use Rattle.cl_types.specs.EachTyped.{EachTyped, EachNarrow};
 
     /// The tree. It takes no memory.
     pub fn unit(&self) -> &Unit
@@ -62,6 +67,18 @@ impl Typed {
         ensures faultless { faults result.now.items ≡ [] }
     {
         &self.tree
+    }
+
+    /// The operations of the tree, each with what its fields are, in the order of the text. An operation in a
+    /// field of another stands behind it. There are at most 1,024, of at most 16 fields. `AllocError` comes where
+    /// the allocator refused memory.
+    pub fn sites(&self, alloc: Global) -> Result<Items<Site<'_>>, AllocError>
+        ensures sites { IfOk result (λ sites. seen sites ≡ sites_of self.now.items) }
+        ensures typed { EachTyped (findings self.now.items) }
+        ensures narrow { EachNarrow (sites_of self.now.items) }
+        ensures few { IfOk result (λ sites. length sites ≤ 1024) }
+    {
+        sites(self.tree.items.as_slice(), alloc)
     }
 }
 

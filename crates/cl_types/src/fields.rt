@@ -1,0 +1,12 @@
+mod expression;
+mod form;
+mod item;
+mod site;
+mod statement;
+#[cfg(test)]
+mod tests;
+mod type_of;
+
+pub use form::FieldForm;
+pub use item::sites;
+pub use site::Site;
