@@ -16,7 +16,7 @@ ghost use Rattle.cl_walk.specs.Walks.{Point, point, Comes, same};
 ghost use Rattle.cl_meaning.specs.Parts.{chain_value, link_value, field_aim, field_part, call_part};
 
 use crate::call::{gives, given_back, live_arguments, parameters};
-use crate::context::Context;
+use crate::context::{Context, Left};
 use crate::field::{Aim, request, spawn};
 use crate::program::Callable;
 use crate::state::State;
@@ -43,26 +43,27 @@ pub fn expression<'a, W: World>(
     on: &Context<'_, 'a>,
     world: &mut W,
     state: &mut State<'a>,
-    more: u32,
+    left: Left,
     e: &'a Expr,
 ) -> Result<Value, Stop>
-    ensures { Comes same (value (around on.now more) e.now) (point state.old (W.said world.old)) result (point state.new (W.said world.new)) }
+    ensures { Comes same (value (around on.now left.calls) e.now) (point state.old (W.said world.old)) result (point state.new (W.said world.new)) }
 {
+    let left = left.inner()?;
     match e {
         Expr::Literal(found) => Ok(literal(found.value)),
         Expr::Place(found) => {
-            let at = place(on, world, state, more, found)?;
+            let at = place(on, world, state, left, found)?;
             Ok(state.value_at(found.name.bytes.as_slice(), at))
         }
-        Expr::Call(found) => call(on, world, state, more, found),
-        Expr::Operation(found) => operation(on, world, state, more, found),
-        Expr::Chain(found) => chain(on, world, state, more, found),
+        Expr::Call(found) => call(on, world, state, left, found),
+        Expr::Operation(found) => operation(on, world, state, left, found),
+        Expr::Chain(found) => chain(on, world, state, left, found),
         Expr::Negate(found) => {
-            let value = expression(on, world, state, more, found.operand.get())?;
+            let value = expression(on, world, state, left, found.operand.get())?;
             Ok(negated(value)?)
         }
         Expr::Not(found) => {
-            let value = expression(on, world, state, more, found.operand.get())?;
+            let value = expression(on, world, state, left, found.operand.get())?;
             Ok(truth(is_zero(value)))
         }
     }
@@ -74,15 +75,15 @@ pub fn place<'a, W: World>(
     on: &Context<'_, 'a>,
     world: &mut W,
     state: &mut State<'a>,
-    more: u32,
+    left: Left,
     found: &'a Place,
 ) -> Result<usize, Stop>
-    ensures { Comes same (place_meant (around on.now more) found.now).at (point state.old (W.said world.old)) result (point state.new (W.said world.new)) }
+    ensures { Comes same (place_meant (around on.now left.calls) found.now).at (point state.old (W.said world.old)) result (point state.new (W.said world.new)) }
 {
     match &found.index {
         None => Ok(0),
         Some(index) => {
-            let value = expression(on, world, state, more, index.get())?;
+            let value = expression(on, world, state, left, index.get())?;
             index_of(number(value), state.length(found.name.bytes.as_slice()))
         }
     }
@@ -94,14 +95,14 @@ fn arguments<'a, W: World>(
     on: &Context<'_, 'a>,
     world: &mut W,
     state: &mut State<'a>,
-    more: u32,
+    left: Left,
     all: &'a [Expr],
 ) -> Result<Vec<Value>, Stop>
-    ensures { Comes (λ values. values.items) (each (map (value (around on.now more)) all.now)) (point state.old (W.said world.old)) result (point state.new (W.said world.new)) }
+    ensures { Comes (λ values. values.items) (each (map (value (around on.now left.calls)) all.now)) (point state.old (W.said world.old)) result (point state.new (W.said world.new)) }
 {
     let mut values = Vec::new(on.alloc);
     for i in 0..all.len() {
-        let value = expression(on, world, state, more, &all[i])?;
+        let value = expression(on, world, state, left, &all[i])?;
         values.reserve(1)?;
         values.push_reserved(value);
     }
@@ -114,13 +115,13 @@ pub fn call<'a, W: World>(
     on: &Context<'_, 'a>,
     world: &mut W,
     state: &mut State<'a>,
-    more: u32,
+    left: Left,
     found: &'a Call,
 ) -> Result<Value, Stop>
-    ensures { Comes same (meaning.call (around on.now more) found.now) (point state.old (W.said world.old)) result (point state.new (W.said world.new)) }
+    ensures { Comes same (meaning.call (around on.now left.calls) found.now) (point state.old (W.said world.old)) result (point state.new (W.said world.new)) }
 {
-    let values = arguments(on, world, state, more, found.arguments.as_slice())?;
-    enter(on, world, state, more, found.name.bytes.as_slice(), values.as_slice())
+    let values = arguments(on, world, state, left, found.arguments.as_slice())?;
+    enter(on, world, state, left, found.name.bytes.as_slice(), values.as_slice())
 }
 
 /// A call of the function of a name with these arguments.
@@ -129,21 +130,22 @@ pub fn enter<'a, W: World>(
     on: &Context<'_, 'a>,
     world: &mut W,
     state: &mut State<'a>,
-    more: u32,
+    left: Left,
     name: &[u8],
     values: &[Value],
 ) -> Result<Value, Stop>
-    ensures { Comes same (calls_in on.now more name.now values.now) (point state.old (W.said world.old)) result (point state.new (W.said world.new)) }
+    ensures { Comes same (calls_in on.now left.calls name.now values.now) (point state.old (W.said world.old)) result (point state.new (W.said world.new)) }
 {
     let program = on.program;
     match program.named(name) {
         Some(callable) => {
             let given = parameters(on.alloc, callable.function, values)?;
             state.tick()?;
-            if more == 0 {
+            if left.calls == 0 {
                 return Err(Stop::Trapped(Trap::CallDepth));
             }
-            run(on, world, state, more - 1, callable, given)
+            let left = Left::outermost(left.calls - 1);
+            run(on, world, state, left, callable, given)
         }
         None => Ok(Value::Int(0)),
     }
@@ -155,17 +157,17 @@ pub fn run<'a, W: World>(
     on: &Context<'_, 'a>,
     world: &mut W,
     state: &mut State<'a>,
-    more: u32,
+    left: Left,
     callable: &Callable<'a>,
     given: Locals<'a>,
 ) -> Result<Value, Stop>
     requires named { (name : Name) × (first_named name (functions_of on.now.program.now.items) ≡ Some callable.now.function.now) }
     requires cells { callable.now.cells ≡ capped (frame_cells (length_in on.now) callable.now.function.now) }
     requires given { given ≡ scope_in given ∷ [] }
-    ensures { Comes same (calls.run (fixed_in on.now) (calls_in on.now more) callable.now.function.now (scope_in given.entry)) (point state.old (W.said world.old)) result (point state.new (W.said world.new)) }
+    ensures { Comes same (calls.run (fixed_in on.now) (calls_in on.now left.calls) callable.now.function.now (scope_in given.entry)) (point state.old (W.said world.old)) result (point state.new (W.said world.new)) }
 {
     state.claim(callable.cells)?;
-    let value = body(on, world, state, more, callable.function, given)?;
+    let value = body(on, world, state, left, callable.function, given)?;
     state.release(callable.cells);
     Ok(value)
 }
@@ -176,16 +178,16 @@ fn body<'a, W: World>(
     on: &Context<'_, 'a>,
     world: &mut W,
     state: &mut State<'a>,
-    more: u32,
+    left: Left,
     function: &'a Function,
     given: Locals<'a>,
 ) -> Result<Value, Stop>
     requires named { (name : Name) × (first_named name (functions_of on.now.program.now.items) ≡ Some function.now) }
     requires given { given ≡ scope_in given ∷ [] }
-    ensures { Comes same (calls.body (fixed_in on.now) (calls_in on.now more) function.now (scope_in given.entry)) (point state.old (W.said world.old)) result (point state.new (W.said world.new)) }
+    ensures { Comes same (calls.body (fixed_in on.now) (calls_in on.now left.calls) function.now (scope_in given.entry)) (point state.old (W.said world.old)) result (point state.new (W.said world.new)) }
 {
     let outer = state.with_locals(given);
-    let exit = in_order(on, world, state, more, function.body.statements.as_slice())?;
+    let exit = in_order(on, world, state, left, function.body.statements.as_slice())?;
     state.with_locals(outer);
     given_back(function, exit)
 }
@@ -195,13 +197,13 @@ fn chain<'a, W: World>(
     on: &Context<'_, 'a>,
     world: &mut W,
     state: &mut State<'a>,
-    more: u32,
+    left: Left,
     found: &'a Chain,
 ) -> Result<Value, Stop>
-    ensures { Comes same (chain_value (around on.now more) found.now) (point state.old (W.said world.old)) result (point state.new (W.said world.new)) }
+    ensures { Comes same (chain_value (around on.now left.calls) found.now) (point state.old (W.said world.old)) result (point state.new (W.said world.new)) }
 {
-    let first = expression(on, world, state, more, found.first.get())?;
-    links(on, world, state, more, found.others.as_slice(), first)
+    let first = expression(on, world, state, left, found.first.get())?;
+    links(on, world, state, left, found.others.as_slice(), first)
 }
 
 #[cycle(walk)]
@@ -209,15 +211,15 @@ fn links<'a, W: World>(
     on: &Context<'_, 'a>,
     world: &mut W,
     state: &mut State<'a>,
-    more: u32,
+    left: Left,
     all: &'a [Link],
     first: Value,
 ) -> Result<Value, Stop>
-    ensures { Comes same (through (map (link_value (around on.now more)) all.now) first) (point state.old (W.said world.old)) result (point state.new (W.said world.new)) }
+    ensures { Comes same (through (map (link_value (around on.now left.calls)) all.now) first) (point state.old (W.said world.old)) result (point state.new (W.said world.new)) }
 {
     let mut value = first;
     for i in 0..all.len() {
-        value = link(on, world, state, more, &all[i], value)?;
+        value = link(on, world, state, left, &all[i], value)?;
     }
     Ok(value)
 }
@@ -228,22 +230,22 @@ fn link<'a, W: World>(
     on: &Context<'_, 'a>,
     world: &mut W,
     state: &mut State<'a>,
-    more: u32,
+    left: Left,
     found: &'a Link,
-    left: Value,
+    before: Value,
 ) -> Result<Value, Stop>
-    ensures { Comes same (link_value (around on.now more) found.now left) (point state.old (W.said world.old)) result (point state.new (W.said world.new)) }
+    ensures { Comes same (link_value (around on.now left.calls) found.now before) (point state.old (W.said world.old)) result (point state.new (W.said world.new)) }
 {
     match found.operator {
-        Operator::And if is_zero(left) => Ok(truth(false)),
-        Operator::Or if !is_zero(left) => Ok(truth(true)),
+        Operator::And if is_zero(before) => Ok(truth(false)),
+        Operator::Or if !is_zero(before) => Ok(truth(true)),
         Operator::And | Operator::Or => {
-            let right = expression(on, world, state, more, &found.operand)?;
+            let right = expression(on, world, state, left, &found.operand)?;
             Ok(truth(!is_zero(right)))
         }
         operator => {
-            let right = expression(on, world, state, more, &found.operand)?;
-            Ok(operated(operator, left, right)?)
+            let right = expression(on, world, state, left, &found.operand)?;
+            Ok(operated(operator, before, right)?)
         }
     }
 }
@@ -254,10 +256,10 @@ pub fn operation<'a, W: World>(
     on: &Context<'_, 'a>,
     world: &mut W,
     state: &mut State<'a>,
-    more: u32,
+    left: Left,
     found: &'a Operation,
 ) -> Result<Value, Stop>
-    ensures { Comes same (meaning.operation (around on.now more) found.now) (point state.old (W.said world.old)) result (point state.new (W.said world.new)) }
+    ensures { Comes same (meaning.operation (around on.now left.calls) found.now) (point state.old (W.said world.old)) result (point state.new (W.said world.new)) }
 {
     let Some(site) = on.program.site_at(found.span.start) else {
         return Err(Stop::NoMemory);
@@ -265,11 +267,11 @@ pub fn operation<'a, W: World>(
     let fields = found.fields.as_slice();
     match found.verb {
         Verb::Eval => {
-            let parts = parts(on, world, state, more, fields)?;
+            let parts = parts(on, world, state, left, fields)?;
             spawn(world, state, on.depth, site, parts)
         }
         verb => {
-            let aims = aims(on, world, state, more, fields)?;
+            let aims = aims(on, world, state, left, fields)?;
             request(on.alloc, world, state, site, verb, aims.as_slice())
         }
     }
@@ -281,14 +283,14 @@ fn aims<'a, W: World>(
     on: &Context<'_, 'a>,
     world: &mut W,
     state: &mut State<'a>,
-    more: u32,
+    left: Left,
     fields: &'a [Field],
 ) -> Result<Vec<Aim<'a>>, Stop>
-    ensures { Comes (λ all. aims_of all.items) (each (map (field_aim (around on.now more)) fields.now)) (point state.old (W.said world.old)) result (point state.new (W.said world.new)) }
+    ensures { Comes (λ all. aims_of all.items) (each (map (field_aim (around on.now left.calls)) fields.now)) (point state.old (W.said world.old)) result (point state.new (W.said world.new)) }
 {
     let mut all = Vec::new(on.alloc);
     for i in 0..fields.len() {
-        let aim = aim(on, world, state, more, &fields[i])?;
+        let aim = aim(on, world, state, left, &fields[i])?;
         all.reserve(1)?;
         all.push_reserved(aim);
     }
@@ -300,15 +302,15 @@ fn aim<'a, W: World>(
     on: &Context<'_, 'a>,
     world: &mut W,
     state: &mut State<'a>,
-    more: u32,
+    left: Left,
     field: &'a Field,
 ) -> Result<Aim<'a>, Stop>
-    ensures { Comes aim_of (field_aim (around on.now more) field.now) (point state.old (W.said world.old)) result (point state.new (W.said world.new)) }
+    ensures { Comes aim_of (field_aim (around on.now left.calls) field.now) (point state.old (W.said world.old)) result (point state.new (W.said world.new)) }
 {
     match field {
         Field::Text(found) => Ok(Aim::Holds(text(on, found)?)),
-        Field::Plain(e) => Ok(Aim::Holds(expression(on, world, state, more, e)?)),
-        Field::Formal(found) => formal(on, world, state, more, found),
+        Field::Plain(e) => Ok(Aim::Holds(expression(on, world, state, left, e)?)),
+        Field::Formal(found) => formal(on, world, state, left, found),
     }
 }
 
@@ -327,13 +329,13 @@ fn formal<'a, W: World>(
     on: &Context<'_, 'a>,
     world: &mut W,
     state: &mut State<'a>,
-    more: u32,
+    left: Left,
     found: &'a Formal,
 ) -> Result<Aim<'a>, Stop>
-    ensures { Comes aim_of (field_aim (around on.now more) (Field.Formal found.now)) (point state.old (W.said world.old)) result (point state.new (W.said world.new)) }
+    ensures { Comes aim_of (field_aim (around on.now left.calls) (Field.Formal found.now)) (point state.old (W.said world.old)) result (point state.new (W.said world.new)) }
 {
     let name = found.target.name.bytes.as_slice();
-    let at = place(on, world, state, more, &found.target)?;
+    let at = place(on, world, state, left, &found.target)?;
     Ok(Aim::Fills {
         of: state.type_of(name),
         name,
@@ -347,14 +349,14 @@ fn parts<'a, W: World>(
     on: &Context<'_, 'a>,
     world: &mut W,
     state: &mut State<'a>,
-    more: u32,
+    left: Left,
     fields: &'a [Field],
 ) -> Result<Items<LiveField>, Stop>
-    ensures { Comes (λ all. map plain_part all.items) (each (map (field_part (around on.now more)) fields.now)) (point state.old (W.said world.old)) result (point state.new (W.said world.new)) }
+    ensures { Comes (λ all. map plain_part all.items) (each (map (field_part (around on.now left.calls)) fields.now)) (point state.old (W.said world.old)) result (point state.new (W.said world.new)) }
 {
     let mut all = Items::new(on.alloc);
     for i in 0..fields.len() {
-        let part = part(on, world, state, more, &fields[i])?;
+        let part = part(on, world, state, left, &fields[i])?;
         all.reserve(1)?;
         all.push(part);
     }
@@ -366,16 +368,16 @@ fn part<'a, W: World>(
     on: &Context<'_, 'a>,
     world: &mut W,
     state: &mut State<'a>,
-    more: u32,
+    left: Left,
     field: &'a Field,
 ) -> Result<LiveField, Stop>
-    ensures { Comes plain_part (field_part (around on.now more) field.now) (point state.old (W.said world.old)) result (point state.new (W.said world.new)) }
+    ensures { Comes plain_part (field_part (around on.now left.calls) field.now) (point state.old (W.said world.old)) result (point state.new (W.said world.new)) }
 {
     match field {
         Field::Text(found) => Ok(LiveField::Ready(text(on, found)?)),
-        Field::Plain(e) => plain_field(on, world, state, more, e),
+        Field::Plain(e) => plain_field(on, world, state, left, e),
         Field::Formal(found) => {
-            formal(on, world, state, more, found)?;
+            formal(on, world, state, left, found)?;
             Ok(LiveField::Ready(Value::Text(0)))
         }
     }
@@ -387,14 +389,14 @@ fn plain_field<'a, W: World>(
     on: &Context<'_, 'a>,
     world: &mut W,
     state: &mut State<'a>,
-    more: u32,
+    left: Left,
     e: &'a Expr,
 ) -> Result<LiveField, Stop>
-    ensures { Comes plain_part (field_part (around on.now more) (Field.Plain e.now)) (point state.old (W.said world.old)) result (point state.new (W.said world.new)) }
+    ensures { Comes plain_part (field_part (around on.now left.calls) (Field.Plain e.now)) (point state.old (W.said world.old)) result (point state.new (W.said world.new)) }
 {
     match e {
-        Expr::Call(found) => live_call(on, world, state, more, found),
-        _ => Ok(LiveField::Ready(expression(on, world, state, more, e)?)),
+        Expr::Call(found) => live_call(on, world, state, left, found),
+        _ => Ok(LiveField::Ready(expression(on, world, state, left, e)?)),
     }
 }
 
@@ -404,12 +406,12 @@ fn live_call<'a, W: World>(
     on: &Context<'_, 'a>,
     world: &mut W,
     state: &mut State<'a>,
-    more: u32,
+    left: Left,
     found: &'a Call,
 ) -> Result<LiveField, Stop>
-    ensures { Comes plain_part (call_part (around on.now more) found.now) (point state.old (W.said world.old)) result (point state.new (W.said world.new)) }
+    ensures { Comes plain_part (call_part (around on.now left.calls) found.now) (point state.old (W.said world.old)) result (point state.new (W.said world.new)) }
 {
-    let values = arguments(on, world, state, more, found.arguments.as_slice())?;
+    let values = arguments(on, world, state, left, found.arguments.as_slice())?;
     let program = on.program;
     match program.named(found.name.bytes.as_slice()) {
         Some(callable) => {

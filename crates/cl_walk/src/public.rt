@@ -6,7 +6,7 @@ ghost use Rattle.cl_walk.specs.Walks.{point, Comes, same};
 ghost use Rattle.cl_walk.specs.Walked.{IsWalk};
 ghost use Rattle.cl_walk.specs.Endings.{outcome_of, IsEnding};
 
-use crate::context::Context;
+use crate::context::{Context, Left};
 use crate::expression::{enter, run};
 use crate::outer::outer;
 use crate::program::Program;
@@ -51,7 +51,7 @@ fn main_process<'a, W: World>(
     given.enter(on.alloc)?;
     let program = on.program;
     let value = match program.named(b"real_main") {
-        Some(callable) => run(on, world, state, 255, callable, given)?,
+        Some(callable) => run(on, world, state, Left::outermost(255), callable, given)?,
         None => Value::Int(0),
     };
     let mut values = Items::new(on.alloc);
@@ -79,7 +79,7 @@ fn part<'a, W: World>(
                 on,
                 world,
                 state,
-                256,
+                Left::outermost(256),
                 found.name.bytes.as_slice(),
                 arguments.as_slice(),
             ),
