@@ -6,7 +6,7 @@ ghost use Rattle.cl_walk.specs.Walks.{point, Comes, same};
 ghost use Rattle.cl_walk.specs.Walked.{IsWalk};
 ghost use Rattle.cl_walk.specs.Endings.{outcome_of, IsEnding};
 
-use crate::context::{Context, Left};
+use crate::context::{Context, MAX_NESTING};
 use crate::expression::{enter, run};
 use crate::outer::outer;
 use crate::program::Program;
@@ -43,7 +43,8 @@ fn main_process<'a, W: World>(
     world: &mut W,
     state: &mut State<'a>,
 ) -> Result<Tuple, Stop>
-    requires { on.now.depth ≡ 0 }
+    requires depth { on.now.depth ≡ 0 }
+    requires calls { on.now.calls ≡ 255 }
     ensures { Comes (λ values. values.items) (main on.now.program.now.items) (point state.old (W.said world.old)) result (point state.new (W.said world.new)) }
 {
     state.claim(on.program.cells())?;
@@ -51,7 +52,7 @@ fn main_process<'a, W: World>(
     given.enter(on.alloc)?;
     let program = on.program;
     let value = match program.named(b"real_main") {
-        Some(callable) => run(on, world, state, Left::outermost(255), callable, given)?,
+        Some(callable) => run(on, world, state, MAX_NESTING, callable, given)?,
         None => Value::Int(0),
     };
     let mut values = Items::new(on.alloc);
@@ -66,6 +67,7 @@ fn part<'a, W: World>(
     state: &mut State<'a>,
     field: &LiveField,
 ) -> Result<Value, Stop>
+    requires { on.now.calls ≡ 256 }
     ensures { Comes same (part_does on.now.program.now.items on.now.depth (plain_part field.now)) (point state.old (W.said world.old)) result (point state.new (W.said world.new)) }
 {
     match field {
@@ -79,7 +81,6 @@ fn part<'a, W: World>(
                 on,
                 world,
                 state,
-                Left::outermost(256),
                 found.name.bytes.as_slice(),
                 arguments.as_slice(),
             ),
@@ -94,6 +95,7 @@ fn live_process<'a, W: World>(
     state: &mut State<'a>,
     live: &Live,
 ) -> Result<Tuple, Stop>
+    requires { on.now.calls ≡ 256 }
     ensures { Comes (λ values. values.items) (live on.now.program.now.items on.now.depth (plain_live live.now)) (point state.old (W.said world.old)) result (point state.new (W.said world.new)) }
 {
     state.claim(on.program.cells())?;
@@ -110,6 +112,7 @@ fn parts<'a, W: World>(
     state: &mut State<'a>,
     fields: &[LiveField],
 ) -> Result<Items<Value>, Stop>
+    requires { on.now.calls ≡ 256 }
     ensures { Comes (λ values. values.items) (parts_do on.now.program.now.items on.now.depth (map plain_part fields.now)) (point state.old (W.said world.old)) result (point state.new (W.said world.new)) }
 {
     let mut values = Items::new(on.alloc);
@@ -184,6 +187,7 @@ fn process<'a, W: World>(
                 alloc,
                 program,
                 depth: 0,
+                calls: 255,
             };
             main_process(&on, world, state)
         }
@@ -196,6 +200,7 @@ fn process<'a, W: World>(
                 alloc,
                 program,
                 depth: *depth,
+                calls: 256,
             };
             live_process(&on, world, state, live)
         }
