@@ -3,7 +3,7 @@ use Rattle.std.specs.Prelude.{◌≡◌, ℕ, true, List, [], ◌∷◌, ◌++�
 use Rattle.cl_value.specs.Plain.{PlainRequest, PlainReply}
 use Rattle.cl_value.specs.Acts.{fits}
 use Rattle.cl_model.specs.Laws.{Answers}
-use Rattle.cl_model.specs.Demand.{Demand, Outcome, Wants}
+use Rattle.cl_model.specs.Demand.{Outcome, Wants}
 use Rattle.cl_walk.specs.Walks.{Told, Said}
 
 -- A world that was asked for this: it has answered by a reply that fits, or it has paused and the request is pending.

@@ -2,10 +2,9 @@ use Rattle.std.specs.Prelude.{pos}
 use Rattle.cl_value.specs.declared.value.Value.{Value}
 use Rattle.cl_value.specs.declared.value.Value.TheVariants.{Int}
 use Rattle.cl_meaning.specs.Operations.{fill}
-use Rattle.cl_walk.specs.declared.field.Aim.{Aim}
 use Rattle.cl_walk.specs.declared.field.Aim.TheVariants.{Holds}
 use Rattle.cl_walk.specs.Views.{aims_of}
-use Rattle.cl_walk.specs.Walks.{Said, point, same, here}
+use Rattle.cl_walk.specs.Walks.{point, same, here}
 use Rattle.cl_walk.proofs.Fields.{fill_next, fill_stops, fill_skips, fill_ends}
 use Rattle.cl_walk.proofs.Walking.{leaves}
 use Rattle.cl_walk.proofs.field.fill.Goals as goal

@@ -1,4 +1,3 @@
-use Rattle.cl_meaning.specs.Operations.{fill, store}
 use Rattle.cl_walk.specs.Walks.{point}
 use Rattle.cl_walk.proofs.Fields.{fill_holds, fill_place}
 use Rattle.cl_walk.proofs.field.fill_one.Goals as goal
