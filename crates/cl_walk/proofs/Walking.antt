@@ -1,9 +1,9 @@
 -- How walks go together. (This project.)
-use Rattle.std.proofs.Common.{◌≡◌, ◌∙◌, ap, sym, refl, ℕ, zero, suc, true, List, [], ◌∷◌, ◌++◌, map, drop, length, get_or, ◌<◌, ◌≤◌, ◌+◌, arith, add-one, append_assoc, subst}
-use Rattle.std.specs.Prelude.{Result, Ok, Err, if◌then◌else◌}
+use Rattle.std.proofs.Common.{◌≡◌, List, [], ◌∷◌, ◌++◌}
+use Rattle.std.specs.Prelude.{Result, Ok, Err, IsErrAnd}
+use Rattle.std.proofs.lemmas.Result.{err_from_is_err_and}
 use Rattle.cl_value.specs.declared.process.Trap.{Trap}
-use Rattle.cl_value.specs.Plain.{PlainRequest, PlainReply}
-use Rattle.cl_model.specs.Doing.{State, Steps, Gives, Prints, Asks, Stops, then_do, pure, trap, checked, Checked, each, each_onto, through, ◌>>=◌, ◌>>◌}
+use Rattle.cl_model.specs.Doing.{State, Steps, then_do, pure, trap, checked, Checked, each, each_onto, ◌>>=◌, ◌>>◌}
 use Rattle.cl_meaning.specs.Variables.{Variables}
 use Rattle.cl_meaning.specs.Operations.{Does}
 use Rattle.cl_walk.specs.declared.stop.Stop.{Stop}
@@ -96,3 +96,12 @@ module _ {A : Type 0} (all : List (Does A)) (from : Point) where
   pub each_ends : {D : Type 0} (shown : D → List A) (given : List A) (now : Point) (d : D) → shown d ≡ given → Reaches all from given [] now → Comes shown (each all) from (Ok d) now
   unfolding each_onto pure
   each_ends shown given now d is reaches = rw is reaches
+
+-- ---- what leaves by `?`
+
+module _ {A B : Type 0} (view : B → A) (p : Does A) (from to : Point) (result : Result B Stop) where
+  pub leaves : (stop : Stop) → IsErrAnd result (λ e. e ≡ stop) → Comes view p from (Err stop) to → Comes view p from result to
+  leaves stop h w = let e = err_from_is_err_and result h in rw (e.1, e.2) w
+
+  pub leaves_without : IsErrAnd result (λ e. e ≡ NoMemory) → Comes view p from result to
+  leaves_without h = leaves NoMemory h tt

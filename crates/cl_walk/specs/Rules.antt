@@ -1,6 +1,5 @@
 -- What parts of a rule do, which functions of the walk stand for. (This project.)
-use Rattle.std.specs.Prelude.{ℕ, nat_lt, if◌then◌else◌, true, List, map, Option, Some, None, option_map, Result, Ok, Err}
-use Rattle.std.specs.Borrow.{Bor}
+use Rattle.std.specs.Prelude.{ℕ, nat_lt, if◌then◌else◌, true, List, Option, Some, None, Result, Ok, Err}
 use Rattle.cl_value.specs.declared.value.Value.{Value}
 use Rattle.cl_value.specs.declared.process.Trap.TheVariants.{EvalDepth}
 use Rattle.cl_value.specs.Plain.{PlainPart, Eval}

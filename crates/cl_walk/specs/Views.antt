@@ -1,8 +1,7 @@
 -- From values of the walk to what the meaning has. (This project.)
-use Rattle.std.specs.Prelude.{ℕ, List, [], ◌∷◌, map, Option, Some, None}
-use Rattle.cl_value.specs.declared.value.Value.{Value}
+use Rattle.std.specs.Prelude.{List, [], ◌∷◌, map, Option, Some, None}
 use Rattle.cl_value.specs.Plain.{PlainReply, Done, Got, Miss}
-use Rattle.cl_meaning.specs.Variables.{Scope, Variable}
+use Rattle.cl_meaning.specs.Variables.{Scope}
 use Rattle.cl_meaning.specs.Operations as meaning
 use Rattle.cl_meaning.specs.Statements as meaning_statements
 use Rattle.cl_walk.specs.declared.world.Answer.{Answer}

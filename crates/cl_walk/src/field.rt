@@ -1,6 +1,6 @@
 //! Fields that were read, and the requests that are made of them.
 
-ghost use Rattle.std.specs.Prelude.{◌≡◌, [], ◌∷◌, map, IfOk};
+ghost use Rattle.std.specs.Prelude.{◌≡◌, [], ◌∷◌, map, MatchResult};
 ghost use Rattle.cl_value.specs.LiveViews.{plain_part, plain_live};
 ghost use Rattle.cl_value.specs.Views.{plain_ask};
 ghost use Rattle.cl_meaning.specs.Operations as meaning;
@@ -44,7 +44,7 @@ fn slot(aim: &Aim<'_>) -> Slot
 
 // The values of a tuple. No tree without faults has other than 1 to 16 fields.
 fn tuple(alloc: Global, aims: &[Aim<'_>]) -> Result<Tuple, Stop>
-    ensures { IfOk result (λ tuple. tuple.items ≡ meaning.values_of (aims_of aims.now)) }
+    ensures { MatchResult result (λ tuple. tuple.items ≡ meaning.values_of (aims_of aims.now)) (λ stop. stop ≡ Stop.NoMemory) }
 {
     let mut values = Items::new(alloc);
     for aim in aims {
@@ -60,7 +60,7 @@ fn tuple(alloc: Global, aims: &[Aim<'_>]) -> Result<Tuple, Stop>
 }
 
 fn template(alloc: Global, aims: &[Aim<'_>]) -> Result<Template, Stop>
-    ensures { IfOk result (λ template. template.items ≡ map meaning.slot (aims_of aims.now)) }
+    ensures { MatchResult result (λ template. template.items ≡ map meaning.slot (aims_of aims.now)) (λ stop. stop ≡ Stop.NoMemory) }
 {
     let mut slots = Items::new(alloc);
     for aim in aims {
@@ -75,7 +75,7 @@ fn template(alloc: Global, aims: &[Aim<'_>]) -> Result<Template, Stop>
 
 // What is asked, of all operations but `eval`.
 fn asked(alloc: Global, verb: Verb, aims: &[Aim<'_>]) -> Result<Ask, Stop>
-    ensures { IfOk result (λ ask. plain_ask ask ≡ meaning.asked verb (aims_of aims.now)) }
+    ensures { MatchResult result (λ ask. plain_ask ask ≡ meaning.asked verb (aims_of aims.now)) (λ stop. stop ≡ Stop.NoMemory) }
 {
     match verb {
         Verb::Out | Verb::Eval => Ok(Ask::Out(tuple(alloc, aims)?)),
