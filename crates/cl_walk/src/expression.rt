@@ -15,7 +15,7 @@ ghost use Rattle.cl_walk.specs.Views.{aims_of, aim_of, scope_in};
 ghost use Rattle.cl_walk.specs.Walks.{Point, point, Comes, same};
 ghost use Rattle.cl_meaning.specs.Parts.{chain_value, link_value, field_aim, field_part, call_part};
 
-use crate::call::{gives, given_back, live_arguments, parameters};
+use crate::call::{given_back, gives, live_arguments, parameters};
 use crate::context::Context;
 use crate::field::{Aim, request, spawn};
 use crate::program::Callable;
@@ -23,7 +23,9 @@ use crate::state::State;
 use crate::statement::in_order;
 use crate::stop::Stop;
 use crate::world::World;
-use cl_ast::{Call, Chain, Expr, Field, Formal, Function, Link, Operation, Operator, Place, Text, Verb};
+use cl_ast::{
+    Call, Chain, Expr, Field, Formal, Function, Link, Operation, Operator, Place, Text, Verb,
+};
 use cl_state::{Locals, is_zero, literal, negated, number, operated, truth};
 use cl_value::{FieldType, Items, LiveField, Trap, Value};
 
@@ -120,7 +122,14 @@ pub fn call<'a, W: World>(
     ensures { Comes same (meaning.call (around on.now more) found.now) (point state.old (W.said world.old)) result (point state.new (W.said world.new)) }
 {
     let values = arguments(on, world, state, more, found.arguments.as_slice())?;
-    enter(on, world, state, more, found.name.bytes.as_slice(), values.as_slice())
+    enter(
+        on,
+        world,
+        state,
+        more,
+        found.name.bytes.as_slice(),
+        values.as_slice(),
+    )
 }
 
 /// A call of the function of a name with these arguments.
