@@ -23,7 +23,9 @@ use crate::state::State;
 use crate::statement::in_order;
 use crate::stop::Stop;
 use crate::world::World;
-use cl_ast::{Call, Chain, Expr, Field, Formal, Function, Link, Operation, Operator, Place, Text, Verb};
+use cl_ast::{
+    Call, Chain, Expr, Field, Formal, Function, Link, Operation, Operator, Place, Text, Verb,
+};
 use cl_state::{Locals, is_zero, literal, negated, number, operated, truth};
 use cl_value::{FieldType, Items, LiveField, Trap, Value};
 

@@ -4,8 +4,8 @@ ghost use Rattle.std.specs.Prelude.{◌≡◌, [], ◌∷◌, ◌++◌, OnOk, If
 ghost use Rattle.cl_meaning.specs.Printing as printing;
 
 use crate::stop::Stop;
-use cl_state::{converted, number};
 use cl_ast::TypeName;
+use cl_state::{converted, number};
 use cl_value::{Items, Value};
 use itoa::Buffer;
 use std::alloc::Global;
