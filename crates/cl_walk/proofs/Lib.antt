@@ -6,3 +6,5 @@ pub mod GroundLists
 pub mod GroundOuter
 pub mod GroundCells
 pub mod GroundFrames
+pub mod Sequences
+pub mod Turning
