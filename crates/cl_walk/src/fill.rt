@@ -1,6 +1,6 @@
 //! What `printf` prints. (ISO/IEC 9899:1999, 7.19.6.1.)
 
-ghost use Rattle.std.specs.Prelude.{◌≡◌, [], ◌∷◌, ◌++◌, OnOk, IfOk};
+ghost use Rattle.std.specs.Prelude.{◌≡◌, [], ◌∷◌, ◌++◌, MatchResult};
 ghost use Rattle.cl_meaning.specs.Printing as printing;
 
 use crate::stop::Stop;
@@ -12,7 +12,7 @@ use std::alloc::Global;
 
 // The number of the first value, in decimal.
 fn put_number(into: &mut Items<u8>, values: &[Value]) -> Result<(), Stop>
-    ensures { OnOk result (into.new.items ≡ into.old.items ++ printing.decimal_of values.now) }
+    ensures { MatchResult result (λ _. into.new.items ≡ into.old.items ++ printing.decimal_of values.now) (λ stop. stop ≡ Stop.NoMemory) }
 {
     let n = match values.first() {
         Some(value) => number(*value),
@@ -27,7 +27,7 @@ fn put_number(into: &mut Items<u8>, values: &[Value]) -> Result<(), Stop>
 
 // The byte of the first value.
 fn put_character(into: &mut Items<u8>, values: &[Value]) -> Result<(), Stop>
-    ensures { OnOk result (into.new.items ≡ into.old.items ++ printing.character_of values.now) }
+    ensures { MatchResult result (λ _. into.new.items ≡ into.old.items ++ printing.character_of values.now) (λ stop. stop ≡ Stop.NoMemory) }
 {
     let value = match values.first() {
         Some(value) => *value,
@@ -40,7 +40,7 @@ fn put_character(into: &mut Items<u8>, values: &[Value]) -> Result<(), Stop>
 }
 
 fn put(into: &mut Items<u8>, byte: u8) -> Result<(), Stop>
-    ensures { OnOk result (into.new.items ≡ into.old.items ++ byte ∷ []) }
+    ensures { MatchResult result (λ _. into.new.items ≡ into.old.items ++ byte ∷ []) (λ stop. stop ≡ Stop.NoMemory) }
 {
     into.reserve(1)?;
     into.push(byte);
@@ -59,7 +59,7 @@ fn behind(values: &[Value]) -> &[Value]
 
 /// The format with its directives filled in, from left to right.
 pub fn filled(alloc: Global, format: &[u8], values: &[Value]) -> Result<Items<u8>, Stop>
-    ensures { IfOk result (λ bytes. bytes.items ≡ printing.filled format.now values.now) }
+    ensures { MatchResult result (λ bytes. bytes.items ≡ printing.filled format.now values.now) (λ stop. stop ≡ Stop.NoMemory) }
 {
     let mut all = Items::new(alloc);
     let mut left = format;
