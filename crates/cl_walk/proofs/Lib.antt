@@ -1,3 +1,4 @@
 pub mod Walking
 pub mod States
 pub mod Fields
+pub mod Printing

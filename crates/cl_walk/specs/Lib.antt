@@ -6,3 +6,4 @@ pub mod Rules
 pub mod Callables
 pub mod Cells
 pub mod Walked
+pub mod Formats
