@@ -1,5 +1,5 @@
 -- What the parts of a tree do, beside expressions and statements. (ISO/IEC 9899:1999, 6.5 and 6.8.)
-use Rattle.std.specs.Prelude.{ℕ, List, map, Option, Some, None, option_map, if◌then◌else◌}
+use Rattle.std.specs.Prelude.{ℕ, map, option_map, if◌then◌else◌}
 use Rattle.cl_value.specs.declared.value.Value.{Value}
 use Rattle.cl_value.specs.Plain.{PlainPart}
 use Rattle.cl_ast.specs.declared.tree.Field.{Field}
@@ -9,7 +9,6 @@ use Rattle.cl_ast.specs.declared.tree.Link.{Link, out-Link}
 use Rattle.cl_ast.specs.declared.tree.Formal.{Formal}
 use Rattle.cl_ast.specs.declared.tree.Prefix.{Prefix}
 use Rattle.cl_ast.specs.declared.tree.Operator.{Operator}
-use Rattle.cl_ast.specs.declared.statement.Stmt.{Stmt}
 use Rattle.cl_ast.specs.declared.statement.If.{If, out-If}
 use Rattle.cl_ast.specs.declared.statement.While.{While, out-While}
 use Rattle.cl_ast.specs.declared.statement.Do.{Do, out-Do}

@@ -14,13 +14,13 @@ use Rattle.cl_walk.specs.declared.context.Context.{Context}
 abbrev pub fixed_in : Context → Fixed
 fixed_in on = fixed on.program.now.items on.depth
 
--- a call where so many more functions may be active
-abbrev pub calls_in : Context → ℕ → Name → List Value → Does Value
-calls_in on more = calls (fixed_in on) more
+-- a call, where so many more functions may be active
+abbrev pub calls_in : Context → Name → List Value → Does Value
+calls_in on = calls (fixed_in on) on.calls
 
--- what an expression asks of the text, where so many more functions may be active
-abbrev pub around : Context → ℕ → Surroundings
-around on more = surroundings (fixed_in on) (calls_in on more)
+-- what an expression asks of the text
+abbrev pub around : Context → Surroundings
+around on = surroundings (fixed_in on) (calls_in on)
 
 abbrev pub length_in : Context → Size → ℕ
 length_in on = (fixed_in on).length_of

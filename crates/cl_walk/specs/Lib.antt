@@ -7,3 +7,4 @@ pub mod Callables
 pub mod Cells
 pub mod Walked
 pub mod Formats
+pub mod Endings

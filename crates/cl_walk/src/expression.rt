@@ -16,14 +16,16 @@ ghost use Rattle.cl_walk.specs.Walks.{Point, point, Comes, same};
 ghost use Rattle.cl_meaning.specs.Parts.{chain_value, link_value, field_aim, field_part, call_part};
 
 use crate::call::{gives, given_back, live_arguments, parameters};
-use crate::context::Context;
+use crate::context::{Context, MAX_NESTING, deeper};
 use crate::field::{Aim, request, spawn};
 use crate::program::Callable;
 use crate::state::State;
 use crate::statement::in_order;
 use crate::stop::Stop;
 use crate::world::World;
-use cl_ast::{Call, Chain, Expr, Field, Formal, Function, Link, Operation, Operator, Place, Text, Verb};
+use cl_ast::{
+    Call, Chain, Expr, Field, Formal, Function, Link, Operation, Operator, Place, Text, Verb,
+};
 use cl_state::{Locals, is_zero, literal, negated, number, operated, truth};
 use cl_value::{FieldType, Items, LiveField, Trap, Value};
 
@@ -37,32 +39,33 @@ fn index_of(n: i64, length: usize) -> Result<usize, Stop>
     }
 }
 
-/// The value of an expression, where so many more functions may be active.
+/// The value of an expression.
 #[cycle(walk)]
 pub fn expression<'a, W: World>(
     on: &Context<'_, 'a>,
     world: &mut W,
     state: &mut State<'a>,
-    more: u32,
+    nesting: u32,
     e: &'a Expr,
 ) -> Result<Value, Stop>
-    ensures { Comes same (value (around on.now more) e.now) (point state.old (W.said world.old)) result (point state.new (W.said world.new)) }
+    ensures { Comes same (value (around on.now) e.now) (point state.old (W.said world.old)) result (point state.new (W.said world.new)) }
 {
+    let nesting = deeper(nesting)?;
     match e {
         Expr::Literal(found) => Ok(literal(found.value)),
         Expr::Place(found) => {
-            let at = place(on, world, state, more, found)?;
+            let at = place(on, world, state, nesting, found)?;
             Ok(state.value_at(found.name.bytes.as_slice(), at))
         }
-        Expr::Call(found) => call(on, world, state, more, found),
-        Expr::Operation(found) => operation(on, world, state, more, found),
-        Expr::Chain(found) => chain(on, world, state, more, found),
+        Expr::Call(found) => call(on, world, state, nesting, found),
+        Expr::Operation(found) => operation(on, world, state, nesting, found),
+        Expr::Chain(found) => chain(on, world, state, nesting, found),
         Expr::Negate(found) => {
-            let value = expression(on, world, state, more, found.operand.get())?;
+            let value = expression(on, world, state, nesting, found.operand.get())?;
             Ok(negated(value)?)
         }
         Expr::Not(found) => {
-            let value = expression(on, world, state, more, found.operand.get())?;
+            let value = expression(on, world, state, nesting, found.operand.get())?;
             Ok(truth(is_zero(value)))
         }
     }
@@ -74,15 +77,15 @@ pub fn place<'a, W: World>(
     on: &Context<'_, 'a>,
     world: &mut W,
     state: &mut State<'a>,
-    more: u32,
+    nesting: u32,
     found: &'a Place,
 ) -> Result<usize, Stop>
-    ensures { Comes same (place_meant (around on.now more) found.now).at (point state.old (W.said world.old)) result (point state.new (W.said world.new)) }
+    ensures { Comes same (place_meant (around on.now) found.now).at (point state.old (W.said world.old)) result (point state.new (W.said world.new)) }
 {
     match &found.index {
         None => Ok(0),
         Some(index) => {
-            let value = expression(on, world, state, more, index.get())?;
+            let value = expression(on, world, state, nesting, index.get())?;
             index_of(number(value), state.length(found.name.bytes.as_slice()))
         }
     }
@@ -94,14 +97,14 @@ fn arguments<'a, W: World>(
     on: &Context<'_, 'a>,
     world: &mut W,
     state: &mut State<'a>,
-    more: u32,
+    nesting: u32,
     all: &'a [Expr],
 ) -> Result<Vec<Value>, Stop>
-    ensures { Comes (λ values. values.items) (each (map (value (around on.now more)) all.now)) (point state.old (W.said world.old)) result (point state.new (W.said world.new)) }
+    ensures { Comes (λ values. values.items) (each (map (value (around on.now)) all.now)) (point state.old (W.said world.old)) result (point state.new (W.said world.new)) }
 {
     let mut values = Vec::new(on.alloc);
     for i in 0..all.len() {
-        let value = expression(on, world, state, more, &all[i])?;
+        let value = expression(on, world, state, nesting, &all[i])?;
         values.reserve(1)?;
         values.push_reserved(value);
     }
@@ -114,13 +117,13 @@ pub fn call<'a, W: World>(
     on: &Context<'_, 'a>,
     world: &mut W,
     state: &mut State<'a>,
-    more: u32,
+    nesting: u32,
     found: &'a Call,
 ) -> Result<Value, Stop>
-    ensures { Comes same (meaning.call (around on.now more) found.now) (point state.old (W.said world.old)) result (point state.new (W.said world.new)) }
+    ensures { Comes same (meaning.call (around on.now) found.now) (point state.old (W.said world.old)) result (point state.new (W.said world.new)) }
 {
-    let values = arguments(on, world, state, more, found.arguments.as_slice())?;
-    enter(on, world, state, more, found.name.bytes.as_slice(), values.as_slice())
+    let values = arguments(on, world, state, nesting, found.arguments.as_slice())?;
+    enter(on, world, state, found.name.bytes.as_slice(), values.as_slice())
 }
 
 /// A call of the function of a name with these arguments.
@@ -129,21 +132,20 @@ pub fn enter<'a, W: World>(
     on: &Context<'_, 'a>,
     world: &mut W,
     state: &mut State<'a>,
-    more: u32,
     name: &[u8],
     values: &[Value],
 ) -> Result<Value, Stop>
-    ensures { Comes same (calls_in on.now more name.now values.now) (point state.old (W.said world.old)) result (point state.new (W.said world.new)) }
+    ensures { Comes same (calls_in on.now name.now values.now) (point state.old (W.said world.old)) result (point state.new (W.said world.new)) }
 {
     let program = on.program;
     match program.named(name) {
         Some(callable) => {
             let given = parameters(on.alloc, callable.function, values)?;
             state.tick()?;
-            if more == 0 {
+            if on.calls == 0 {
                 return Err(Stop::Trapped(Trap::CallDepth));
             }
-            run(on, world, state, more - 1, callable, given)
+            run(&on.called(), world, state, MAX_NESTING, callable, given)
         }
         None => Ok(Value::Int(0)),
     }
@@ -155,17 +157,17 @@ pub fn run<'a, W: World>(
     on: &Context<'_, 'a>,
     world: &mut W,
     state: &mut State<'a>,
-    more: u32,
+    nesting: u32,
     callable: &Callable<'a>,
     given: Locals<'a>,
 ) -> Result<Value, Stop>
     requires named { (name : Name) × (first_named name (functions_of on.now.program.now.items) ≡ Some callable.now.function.now) }
     requires cells { callable.now.cells ≡ capped (frame_cells (length_in on.now) callable.now.function.now) }
     requires given { given ≡ scope_in given ∷ [] }
-    ensures { Comes same (calls.run (fixed_in on.now) (calls_in on.now more) callable.now.function.now (scope_in given.entry)) (point state.old (W.said world.old)) result (point state.new (W.said world.new)) }
+    ensures { Comes same (calls.run (fixed_in on.now) (calls_in on.now) callable.now.function.now (scope_in given.entry)) (point state.old (W.said world.old)) result (point state.new (W.said world.new)) }
 {
     state.claim(callable.cells)?;
-    let value = body(on, world, state, more, callable.function, given)?;
+    let value = body(on, world, state, nesting, callable.function, given)?;
     state.release(callable.cells);
     Ok(value)
 }
@@ -176,16 +178,16 @@ fn body<'a, W: World>(
     on: &Context<'_, 'a>,
     world: &mut W,
     state: &mut State<'a>,
-    more: u32,
+    nesting: u32,
     function: &'a Function,
     given: Locals<'a>,
 ) -> Result<Value, Stop>
     requires named { (name : Name) × (first_named name (functions_of on.now.program.now.items) ≡ Some function.now) }
     requires given { given ≡ scope_in given ∷ [] }
-    ensures { Comes same (calls.body (fixed_in on.now) (calls_in on.now more) function.now (scope_in given.entry)) (point state.old (W.said world.old)) result (point state.new (W.said world.new)) }
+    ensures { Comes same (calls.body (fixed_in on.now) (calls_in on.now) function.now (scope_in given.entry)) (point state.old (W.said world.old)) result (point state.new (W.said world.new)) }
 {
     let outer = state.with_locals(given);
-    let exit = in_order(on, world, state, more, function.body.statements.as_slice())?;
+    let exit = in_order(on, world, state, nesting, function.body.statements.as_slice())?;
     state.with_locals(outer);
     given_back(function, exit)
 }
@@ -195,13 +197,13 @@ fn chain<'a, W: World>(
     on: &Context<'_, 'a>,
     world: &mut W,
     state: &mut State<'a>,
-    more: u32,
+    nesting: u32,
     found: &'a Chain,
 ) -> Result<Value, Stop>
-    ensures { Comes same (chain_value (around on.now more) found.now) (point state.old (W.said world.old)) result (point state.new (W.said world.new)) }
+    ensures { Comes same (chain_value (around on.now) found.now) (point state.old (W.said world.old)) result (point state.new (W.said world.new)) }
 {
-    let first = expression(on, world, state, more, found.first.get())?;
-    links(on, world, state, more, found.others.as_slice(), first)
+    let first = expression(on, world, state, nesting, found.first.get())?;
+    links(on, world, state, nesting, found.others.as_slice(), first)
 }
 
 #[cycle(walk)]
@@ -209,15 +211,15 @@ fn links<'a, W: World>(
     on: &Context<'_, 'a>,
     world: &mut W,
     state: &mut State<'a>,
-    more: u32,
+    nesting: u32,
     all: &'a [Link],
     first: Value,
 ) -> Result<Value, Stop>
-    ensures { Comes same (through (map (link_value (around on.now more)) all.now) first) (point state.old (W.said world.old)) result (point state.new (W.said world.new)) }
+    ensures { Comes same (through (map (link_value (around on.now)) all.now) first) (point state.old (W.said world.old)) result (point state.new (W.said world.new)) }
 {
     let mut value = first;
     for i in 0..all.len() {
-        value = link(on, world, state, more, &all[i], value)?;
+        value = link(on, world, state, nesting, &all[i], value)?;
     }
     Ok(value)
 }
@@ -228,22 +230,22 @@ fn link<'a, W: World>(
     on: &Context<'_, 'a>,
     world: &mut W,
     state: &mut State<'a>,
-    more: u32,
+    nesting: u32,
     found: &'a Link,
-    left: Value,
+    before: Value,
 ) -> Result<Value, Stop>
-    ensures { Comes same (link_value (around on.now more) found.now left) (point state.old (W.said world.old)) result (point state.new (W.said world.new)) }
+    ensures { Comes same (link_value (around on.now) found.now before) (point state.old (W.said world.old)) result (point state.new (W.said world.new)) }
 {
     match found.operator {
-        Operator::And if is_zero(left) => Ok(truth(false)),
-        Operator::Or if !is_zero(left) => Ok(truth(true)),
+        Operator::And if is_zero(before) => Ok(truth(false)),
+        Operator::Or if !is_zero(before) => Ok(truth(true)),
         Operator::And | Operator::Or => {
-            let right = expression(on, world, state, more, &found.operand)?;
+            let right = expression(on, world, state, nesting, &found.operand)?;
             Ok(truth(!is_zero(right)))
         }
         operator => {
-            let right = expression(on, world, state, more, &found.operand)?;
-            Ok(operated(operator, left, right)?)
+            let right = expression(on, world, state, nesting, &found.operand)?;
+            Ok(operated(operator, before, right)?)
         }
     }
 }
@@ -254,10 +256,10 @@ pub fn operation<'a, W: World>(
     on: &Context<'_, 'a>,
     world: &mut W,
     state: &mut State<'a>,
-    more: u32,
+    nesting: u32,
     found: &'a Operation,
 ) -> Result<Value, Stop>
-    ensures { Comes same (meaning.operation (around on.now more) found.now) (point state.old (W.said world.old)) result (point state.new (W.said world.new)) }
+    ensures { Comes same (meaning.operation (around on.now) found.now) (point state.old (W.said world.old)) result (point state.new (W.said world.new)) }
 {
     let Some(site) = on.program.site_at(found.span.start) else {
         return Err(Stop::NoMemory);
@@ -265,11 +267,11 @@ pub fn operation<'a, W: World>(
     let fields = found.fields.as_slice();
     match found.verb {
         Verb::Eval => {
-            let parts = parts(on, world, state, more, fields)?;
+            let parts = parts(on, world, state, nesting, fields)?;
             spawn(world, state, on.depth, site, parts)
         }
         verb => {
-            let aims = aims(on, world, state, more, fields)?;
+            let aims = aims(on, world, state, nesting, fields)?;
             request(on.alloc, world, state, site, verb, aims.as_slice())
         }
     }
@@ -281,14 +283,14 @@ fn aims<'a, W: World>(
     on: &Context<'_, 'a>,
     world: &mut W,
     state: &mut State<'a>,
-    more: u32,
+    nesting: u32,
     fields: &'a [Field],
 ) -> Result<Vec<Aim<'a>>, Stop>
-    ensures { Comes (λ all. aims_of all.items) (each (map (field_aim (around on.now more)) fields.now)) (point state.old (W.said world.old)) result (point state.new (W.said world.new)) }
+    ensures { Comes (λ all. aims_of all.items) (each (map (field_aim (around on.now)) fields.now)) (point state.old (W.said world.old)) result (point state.new (W.said world.new)) }
 {
     let mut all = Vec::new(on.alloc);
     for i in 0..fields.len() {
-        let aim = aim(on, world, state, more, &fields[i])?;
+        let aim = aim(on, world, state, nesting, &fields[i])?;
         all.reserve(1)?;
         all.push_reserved(aim);
     }
@@ -300,15 +302,15 @@ fn aim<'a, W: World>(
     on: &Context<'_, 'a>,
     world: &mut W,
     state: &mut State<'a>,
-    more: u32,
+    nesting: u32,
     field: &'a Field,
 ) -> Result<Aim<'a>, Stop>
-    ensures { Comes aim_of (field_aim (around on.now more) field.now) (point state.old (W.said world.old)) result (point state.new (W.said world.new)) }
+    ensures { Comes aim_of (field_aim (around on.now) field.now) (point state.old (W.said world.old)) result (point state.new (W.said world.new)) }
 {
     match field {
         Field::Text(found) => Ok(Aim::Holds(text(on, found)?)),
-        Field::Plain(e) => Ok(Aim::Holds(expression(on, world, state, more, e)?)),
-        Field::Formal(found) => formal(on, world, state, more, found),
+        Field::Plain(e) => Ok(Aim::Holds(expression(on, world, state, nesting, e)?)),
+        Field::Formal(found) => formal(on, world, state, nesting, found),
     }
 }
 
@@ -327,13 +329,13 @@ fn formal<'a, W: World>(
     on: &Context<'_, 'a>,
     world: &mut W,
     state: &mut State<'a>,
-    more: u32,
+    nesting: u32,
     found: &'a Formal,
 ) -> Result<Aim<'a>, Stop>
-    ensures { Comes aim_of (field_aim (around on.now more) (Field.Formal found.now)) (point state.old (W.said world.old)) result (point state.new (W.said world.new)) }
+    ensures { Comes aim_of (field_aim (around on.now) (Field.Formal found.now)) (point state.old (W.said world.old)) result (point state.new (W.said world.new)) }
 {
     let name = found.target.name.bytes.as_slice();
-    let at = place(on, world, state, more, &found.target)?;
+    let at = place(on, world, state, nesting, &found.target)?;
     Ok(Aim::Fills {
         of: state.type_of(name),
         name,
@@ -347,14 +349,14 @@ fn parts<'a, W: World>(
     on: &Context<'_, 'a>,
     world: &mut W,
     state: &mut State<'a>,
-    more: u32,
+    nesting: u32,
     fields: &'a [Field],
 ) -> Result<Items<LiveField>, Stop>
-    ensures { Comes (λ all. map plain_part all.items) (each (map (field_part (around on.now more)) fields.now)) (point state.old (W.said world.old)) result (point state.new (W.said world.new)) }
+    ensures { Comes (λ all. map plain_part all.items) (each (map (field_part (around on.now)) fields.now)) (point state.old (W.said world.old)) result (point state.new (W.said world.new)) }
 {
     let mut all = Items::new(on.alloc);
     for i in 0..fields.len() {
-        let part = part(on, world, state, more, &fields[i])?;
+        let part = part(on, world, state, nesting, &fields[i])?;
         all.reserve(1)?;
         all.push(part);
     }
@@ -366,16 +368,16 @@ fn part<'a, W: World>(
     on: &Context<'_, 'a>,
     world: &mut W,
     state: &mut State<'a>,
-    more: u32,
+    nesting: u32,
     field: &'a Field,
 ) -> Result<LiveField, Stop>
-    ensures { Comes plain_part (field_part (around on.now more) field.now) (point state.old (W.said world.old)) result (point state.new (W.said world.new)) }
+    ensures { Comes plain_part (field_part (around on.now) field.now) (point state.old (W.said world.old)) result (point state.new (W.said world.new)) }
 {
     match field {
         Field::Text(found) => Ok(LiveField::Ready(text(on, found)?)),
-        Field::Plain(e) => plain_field(on, world, state, more, e),
+        Field::Plain(e) => plain_field(on, world, state, nesting, e),
         Field::Formal(found) => {
-            formal(on, world, state, more, found)?;
+            formal(on, world, state, nesting, found)?;
             Ok(LiveField::Ready(Value::Text(0)))
         }
     }
@@ -387,14 +389,14 @@ fn plain_field<'a, W: World>(
     on: &Context<'_, 'a>,
     world: &mut W,
     state: &mut State<'a>,
-    more: u32,
+    nesting: u32,
     e: &'a Expr,
 ) -> Result<LiveField, Stop>
-    ensures { Comes plain_part (field_part (around on.now more) (Field.Plain e.now)) (point state.old (W.said world.old)) result (point state.new (W.said world.new)) }
+    ensures { Comes plain_part (field_part (around on.now) (Field.Plain e.now)) (point state.old (W.said world.old)) result (point state.new (W.said world.new)) }
 {
     match e {
-        Expr::Call(found) => live_call(on, world, state, more, found),
-        _ => Ok(LiveField::Ready(expression(on, world, state, more, e)?)),
+        Expr::Call(found) => live_call(on, world, state, nesting, found),
+        _ => Ok(LiveField::Ready(expression(on, world, state, nesting, e)?)),
     }
 }
 
@@ -404,12 +406,12 @@ fn live_call<'a, W: World>(
     on: &Context<'_, 'a>,
     world: &mut W,
     state: &mut State<'a>,
-    more: u32,
+    nesting: u32,
     found: &'a Call,
 ) -> Result<LiveField, Stop>
-    ensures { Comes plain_part (call_part (around on.now more) found.now) (point state.old (W.said world.old)) result (point state.new (W.said world.new)) }
+    ensures { Comes plain_part (call_part (around on.now) found.now) (point state.old (W.said world.old)) result (point state.new (W.said world.new)) }
 {
-    let values = arguments(on, world, state, more, found.arguments.as_slice())?;
+    let values = arguments(on, world, state, nesting, found.arguments.as_slice())?;
     let program = on.program;
     match program.named(found.name.bytes.as_slice()) {
         Some(callable) => {

@@ -13,7 +13,7 @@ ghost use Rattle.cl_walk.specs.Rules.{Turns};
 ghost use Rattle.cl_meaning.specs.Parts.{new_value, if_exit, while_exit, while_turn, do_exit, do_turn, for_exit, for_turns, for_turn};
 
 use crate::call::Exit;
-use crate::context::Context;
+use crate::context::{Context, deeper};
 use crate::expression::{call, expression, operation, place};
 use crate::fill::filled;
 use crate::literal::{single, zeros};
@@ -34,13 +34,13 @@ pub fn in_order<'a, W: World>(
     on: &Context<'_, 'a>,
     world: &mut W,
     state: &mut State<'a>,
-    more: u32,
+    nesting: u32,
     statements: &'a [Stmt],
 ) -> Result<Exit, Stop>
-    ensures { Comes exit_of (meaning.in_order (map (does (around on.now more) (length_in on.now)) statements.now)) (point state.old (W.said world.old)) result (point state.new (W.said world.new)) }
+    ensures { Comes exit_of (meaning.in_order (map (does (around on.now) (length_in on.now)) statements.now)) (point state.old (W.said world.old)) result (point state.new (W.said world.new)) }
 {
     for i in 0..statements.len() {
-        match statement(on, world, state, more, &statements[i])? {
+        match statement(on, world, state, nesting, &statements[i])? {
             Exit::WentOn => {}
             exit => return Ok(exit),
         }
@@ -54,13 +54,13 @@ fn scoped<'a, W: World>(
     on: &Context<'_, 'a>,
     world: &mut W,
     state: &mut State<'a>,
-    more: u32,
+    nesting: u32,
     block: &'a Block,
 ) -> Result<Exit, Stop>
-    ensures { Comes exit_of (does (around on.now more) (length_in on.now) (Stmt.Block block.now)) (point state.old (W.said world.old)) result (point state.new (W.said world.new)) }
+    ensures { Comes exit_of (does (around on.now) (length_in on.now) (Stmt.Block block.now)) (point state.old (W.said world.old)) result (point state.new (W.said world.new)) }
 {
     state.enter(on.alloc)?;
-    let exit = in_order(on, world, state, more, block.statements.as_slice())?;
+    let exit = in_order(on, world, state, nesting, block.statements.as_slice())?;
     state.leave();
     Ok(exit)
 }
@@ -71,39 +71,40 @@ pub fn statement<'a, W: World>(
     on: &Context<'_, 'a>,
     world: &mut W,
     state: &mut State<'a>,
-    more: u32,
+    nesting: u32,
     s: &'a Stmt,
 ) -> Result<Exit, Stop>
-    ensures { Comes exit_of (does (around on.now more) (length_in on.now) s.now) (point state.old (W.said world.old)) result (point state.new (W.said world.new)) }
+    ensures { Comes exit_of (does (around on.now) (length_in on.now) s.now) (point state.old (W.said world.old)) result (point state.new (W.said world.new)) }
 {
+    let nesting = deeper(nesting)?;
     match s {
-        Stmt::Block(found) => scoped(on, world, state, more, found),
+        Stmt::Block(found) => scoped(on, world, state, nesting, found),
         Stmt::Empty(_) => Ok(Exit::WentOn),
         Stmt::Variables(found) => declare_all(
             on,
             world,
             state,
-            more,
+            nesting,
             found.type_name,
             found.declarators.as_slice(),
         ),
-        Stmt::Assign(found) => assign(on, world, state, more, found),
+        Stmt::Assign(found) => assign(on, world, state, nesting, found),
         Stmt::Call(found) => {
-            call(on, world, state, more, found)?;
+            call(on, world, state, nesting, found)?;
             Ok(Exit::WentOn)
         }
         Stmt::Operation(found) => {
-            operation(on, world, state, more, found)?;
+            operation(on, world, state, nesting, found)?;
             Ok(Exit::WentOn)
         }
-        Stmt::Print(found) => print(on, world, state, more, found),
-        Stmt::If(found) => choose(on, world, state, more, found),
-        Stmt::While(found) => while_loop(on, world, state, more, found),
-        Stmt::Do(found) => do_loop(on, world, state, more, found),
-        Stmt::For(found) => for_loop(on, world, state, more, found),
+        Stmt::Print(found) => print(on, world, state, nesting, found),
+        Stmt::If(found) => choose(on, world, state, nesting, found),
+        Stmt::While(found) => while_loop(on, world, state, nesting, found),
+        Stmt::Do(found) => do_loop(on, world, state, nesting, found),
+        Stmt::For(found) => for_loop(on, world, state, nesting, found),
         Stmt::Break(_) => Ok(Exit::Broke),
         Stmt::Continue(_) => Ok(Exit::Continued),
-        Stmt::Return(found) => leave(on, world, state, more, found),
+        Stmt::Return(found) => leave(on, world, state, nesting, found),
     }
 }
 
@@ -113,14 +114,14 @@ fn leave<'a, W: World>(
     on: &Context<'_, 'a>,
     world: &mut W,
     state: &mut State<'a>,
-    more: u32,
+    nesting: u32,
     found: &'a Return,
 ) -> Result<Exit, Stop>
-    ensures { Comes exit_of (meaning.returned (around on.now more) (length_in on.now) found.now.value) (point state.old (W.said world.old)) result (point state.new (W.said world.new)) }
+    ensures { Comes exit_of (meaning.returned (around on.now) (length_in on.now) found.now.value) (point state.old (W.said world.old)) result (point state.new (W.said world.new)) }
 {
     match &found.value {
         Some(e) => {
-            let value = expression(on, world, state, more, e)?;
+            let value = expression(on, world, state, nesting, e)?;
             Ok(Exit::Returned(Some(value)))
         }
         None => Ok(Exit::Returned(None)),
@@ -133,13 +134,13 @@ fn maybe<'a, W: World>(
     on: &Context<'_, 'a>,
     world: &mut W,
     state: &mut State<'a>,
-    more: u32,
+    nesting: u32,
     found: &'a Option<Boxed<Stmt>>,
 ) -> Result<Exit, Stop>
-    ensures { Comes exit_of (meaning.or_nothing (option_map (does (around on.now more) (length_in on.now)) found.now)) (point state.old (W.said world.old)) result (point state.new (W.said world.new)) }
+    ensures { Comes exit_of (meaning.or_nothing (option_map (does (around on.now) (length_in on.now)) found.now)) (point state.old (W.said world.old)) result (point state.new (W.said world.new)) }
 {
     match found {
-        Some(s) => statement(on, world, state, more, s.get()),
+        Some(s) => statement(on, world, state, nesting, s.get()),
         None => Ok(Exit::WentOn),
     }
 }
@@ -149,16 +150,16 @@ fn choose<'a, W: World>(
     on: &Context<'_, 'a>,
     world: &mut W,
     state: &mut State<'a>,
-    more: u32,
+    nesting: u32,
     found: &'a If,
 ) -> Result<Exit, Stop>
-    ensures { Comes exit_of (if_exit (around on.now more) (length_in on.now) found.now) (point state.old (W.said world.old)) result (point state.new (W.said world.new)) }
+    ensures { Comes exit_of (if_exit (around on.now) (length_in on.now) found.now) (point state.old (W.said world.old)) result (point state.new (W.said world.new)) }
 {
-    let value = expression(on, world, state, more, &found.test)?;
+    let value = expression(on, world, state, nesting, &found.test)?;
     if is_zero(value) {
-        maybe(on, world, state, more, &found.no)
+        maybe(on, world, state, nesting, &found.no)
     } else {
-        statement(on, world, state, more, found.yes.get())
+        statement(on, world, state, nesting, found.yes.get())
     }
 }
 
@@ -168,18 +169,18 @@ fn while_loop<'a, W: World>(
     on: &Context<'_, 'a>,
     world: &mut W,
     state: &mut State<'a>,
-    more: u32,
+    nesting: u32,
     found: &'a While,
 ) -> Result<Exit, Stop>
-    ensures { Comes exit_of (while_exit (around on.now more) (length_in on.now) found.now) (point state.old (W.said world.old)) result (point state.new (W.said world.new)) }
+    ensures { Comes exit_of (while_exit (around on.now) (length_in on.now) found.now) (point state.old (W.said world.old)) result (point state.new (W.said world.new)) }
 {
     let most = state.ticks();
     for _ in 0..most {
-        if let Some(exit) = while_turn(on, world, state, more, found)? {
+        if let Some(exit) = while_turn(on, world, state, nesting, found)? {
             return Ok(exit);
         }
     }
-    match while_turn(on, world, state, more, found)? {
+    match while_turn(on, world, state, nesting, found)? {
         Some(exit) => Ok(exit),
         None => Err(Stop::Trapped(Trap::StepLimit)),
     }
@@ -190,17 +191,17 @@ fn while_turn<'a, W: World>(
     on: &Context<'_, 'a>,
     world: &mut W,
     state: &mut State<'a>,
-    more: u32,
+    nesting: u32,
     found: &'a While,
 ) -> Result<Option<Exit>, Stop>
-    ensures { (again : Does meaning.Exit) → Turns (while_turn (around on.now more) (length_in on.now) found.now again) again (point state.old (W.said world.old)) result (point state.new (W.said world.new)) }
+    ensures { (again : Does meaning.Exit) → Turns (while_turn (around on.now) (length_in on.now) found.now again) again (point state.old (W.said world.old)) result (point state.new (W.said world.new)) }
 {
-    let value = expression(on, world, state, more, &found.test)?;
+    let value = expression(on, world, state, nesting, &found.test)?;
     if is_zero(value) {
         return Ok(Some(Exit::WentOn));
     }
     state.tick()?;
-    let exit = statement(on, world, state, more, found.body.get())?;
+    let exit = statement(on, world, state, nesting, found.body.get())?;
     Ok(exit.behind_body())
 }
 
@@ -209,18 +210,18 @@ fn do_loop<'a, W: World>(
     on: &Context<'_, 'a>,
     world: &mut W,
     state: &mut State<'a>,
-    more: u32,
+    nesting: u32,
     found: &'a Do,
 ) -> Result<Exit, Stop>
-    ensures { Comes exit_of (do_exit (around on.now more) (length_in on.now) found.now) (point state.old (W.said world.old)) result (point state.new (W.said world.new)) }
+    ensures { Comes exit_of (do_exit (around on.now) (length_in on.now) found.now) (point state.old (W.said world.old)) result (point state.new (W.said world.new)) }
 {
     let most = state.ticks();
     for _ in 0..most {
-        if let Some(exit) = do_turn(on, world, state, more, found)? {
+        if let Some(exit) = do_turn(on, world, state, nesting, found)? {
             return Ok(exit);
         }
     }
-    match do_turn(on, world, state, more, found)? {
+    match do_turn(on, world, state, nesting, found)? {
         Some(exit) => Ok(exit),
         None => Err(Stop::Trapped(Trap::StepLimit)),
     }
@@ -231,17 +232,17 @@ fn do_turn<'a, W: World>(
     on: &Context<'_, 'a>,
     world: &mut W,
     state: &mut State<'a>,
-    more: u32,
+    nesting: u32,
     found: &'a Do,
 ) -> Result<Option<Exit>, Stop>
-    ensures { (again : Does meaning.Exit) → Turns (do_turn (around on.now more) (length_in on.now) found.now again) again (point state.old (W.said world.old)) result (point state.new (W.said world.new)) }
+    ensures { (again : Does meaning.Exit) → Turns (do_turn (around on.now) (length_in on.now) found.now again) again (point state.old (W.said world.old)) result (point state.new (W.said world.new)) }
 {
     state.tick()?;
-    let exit = statement(on, world, state, more, found.body.get())?;
+    let exit = statement(on, world, state, nesting, found.body.get())?;
     if let Some(exit) = exit.behind_body() {
         return Ok(Some(exit));
     }
-    let value = expression(on, world, state, more, &found.test)?;
+    let value = expression(on, world, state, nesting, &found.test)?;
     if is_zero(value) {
         Ok(Some(Exit::WentOn))
     } else {
@@ -254,13 +255,13 @@ fn for_loop<'a, W: World>(
     on: &Context<'_, 'a>,
     world: &mut W,
     state: &mut State<'a>,
-    more: u32,
+    nesting: u32,
     found: &'a For,
 ) -> Result<Exit, Stop>
-    ensures { Comes exit_of (for_exit (around on.now more) (length_in on.now) found.now) (point state.old (W.said world.old)) result (point state.new (W.said world.new)) }
+    ensures { Comes exit_of (for_exit (around on.now) (length_in on.now) found.now) (point state.old (W.said world.old)) result (point state.new (W.said world.new)) }
 {
-    maybe(on, world, state, more, &found.first)?;
-    for_turns(on, world, state, more, found)
+    maybe(on, world, state, nesting, &found.first)?;
+    for_turns(on, world, state, nesting, found)
 }
 
 #[cycle(walk)]
@@ -268,18 +269,18 @@ fn for_turns<'a, W: World>(
     on: &Context<'_, 'a>,
     world: &mut W,
     state: &mut State<'a>,
-    more: u32,
+    nesting: u32,
     found: &'a For,
 ) -> Result<Exit, Stop>
-    ensures { Comes exit_of (for_turns (around on.now more) (length_in on.now) found.now) (point state.old (W.said world.old)) result (point state.new (W.said world.new)) }
+    ensures { Comes exit_of (for_turns (around on.now) (length_in on.now) found.now) (point state.old (W.said world.old)) result (point state.new (W.said world.new)) }
 {
     let most = state.ticks();
     for _ in 0..most {
-        if let Some(exit) = for_turn(on, world, state, more, found)? {
+        if let Some(exit) = for_turn(on, world, state, nesting, found)? {
             return Ok(exit);
         }
     }
-    match for_turn(on, world, state, more, found)? {
+    match for_turn(on, world, state, nesting, found)? {
         Some(exit) => Ok(exit),
         None => Err(Stop::Trapped(Trap::StepLimit)),
     }
@@ -290,21 +291,21 @@ fn for_turn<'a, W: World>(
     on: &Context<'_, 'a>,
     world: &mut W,
     state: &mut State<'a>,
-    more: u32,
+    nesting: u32,
     found: &'a For,
 ) -> Result<Option<Exit>, Stop>
-    ensures { (again : Does meaning.Exit) → Turns (for_turn (around on.now more) (length_in on.now) found.now again) again (point state.old (W.said world.old)) result (point state.new (W.said world.new)) }
+    ensures { (again : Does meaning.Exit) → Turns (for_turn (around on.now) (length_in on.now) found.now again) again (point state.old (W.said world.old)) result (point state.new (W.said world.new)) }
 {
-    let value = test(on, world, state, more, &found.test)?;
+    let value = test(on, world, state, nesting, &found.test)?;
     if is_zero(value) {
         return Ok(Some(Exit::WentOn));
     }
     state.tick()?;
-    let exit = statement(on, world, state, more, found.body.get())?;
+    let exit = statement(on, world, state, nesting, found.body.get())?;
     if let Some(exit) = exit.behind_body() {
         return Ok(Some(exit));
     }
-    maybe(on, world, state, more, &found.step)?;
+    maybe(on, world, state, nesting, &found.step)?;
     Ok(None)
 }
 
@@ -314,13 +315,13 @@ fn test<'a, W: World>(
     on: &Context<'_, 'a>,
     world: &mut W,
     state: &mut State<'a>,
-    more: u32,
+    nesting: u32,
     found: &'a Option<Expr>,
 ) -> Result<Value, Stop>
-    ensures { Comes same (meaning.or_true (around on.now more) (length_in on.now) found.now) (point state.old (W.said world.old)) result (point state.new (W.said world.new)) }
+    ensures { Comes same (meaning.or_true (around on.now) (length_in on.now) found.now) (point state.old (W.said world.old)) result (point state.new (W.said world.new)) }
 {
     match found {
-        Some(e) => expression(on, world, state, more, e),
+        Some(e) => expression(on, world, state, nesting, e),
         None => Ok(Value::Int(1)),
     }
 }
@@ -330,14 +331,14 @@ fn declare_all<'a, W: World>(
     on: &Context<'_, 'a>,
     world: &mut W,
     state: &mut State<'a>,
-    more: u32,
+    nesting: u32,
     of: TypeName,
     all: &'a [Declarator],
 ) -> Result<Exit, Stop>
-    ensures { Comes exit_of (meaning.in_order (map (meaning.declarator_does (around on.now more) (length_in on.now) of) all.now)) (point state.old (W.said world.old)) result (point state.new (W.said world.new)) }
+    ensures { Comes exit_of (meaning.in_order (map (meaning.declarator_does (around on.now) (length_in on.now) of) all.now)) (point state.old (W.said world.old)) result (point state.new (W.said world.new)) }
 {
     for i in 0..all.len() {
-        declare(on, world, state, more, of, &all[i])?;
+        declare(on, world, state, nesting, of, &all[i])?;
     }
     Ok(Exit::WentOn)
 }
@@ -347,17 +348,17 @@ fn declare<'a, W: World>(
     on: &Context<'_, 'a>,
     world: &mut W,
     state: &mut State<'a>,
-    more: u32,
+    nesting: u32,
     of: TypeName,
     found: &'a Declarator,
 ) -> Result<(), Stop>
-    ensures { Comes (λ _. meaning.WentOn) (meaning.declarator_does (around on.now more) (length_in on.now) of found.now) (point state.old (W.said world.old)) result (point state.new (W.said world.new)) }
+    ensures { Comes (λ _. meaning.WentOn) (meaning.declarator_does (around on.now) (length_in on.now) of found.now) (point state.old (W.said world.old)) result (point state.new (W.said world.new)) }
 {
     let values = match &found.form {
         Form::Bare => single(on.alloc, zero_of(of))?,
         Form::Array(size) => zeros(on.alloc, of, on.program.length_of(size))?,
         Form::Value(initial) => {
-            let value = expression(on, world, state, more, &initial.expr)?;
+            let value = expression(on, world, state, nesting, &initial.expr)?;
             single(on.alloc, converted(of, value)?)?
         }
     };
@@ -373,18 +374,18 @@ fn assign<'a, W: World>(
     on: &Context<'_, 'a>,
     world: &mut W,
     state: &mut State<'a>,
-    more: u32,
+    nesting: u32,
     found: &'a Assign,
 ) -> Result<Exit, Stop>
-    ensures { Comes exit_of (meaning.change_does (around on.now more) (length_in on.now) (place_meant (around on.now more) found.now.place) found.now.change) (point state.old (W.said world.old)) result (point state.new (W.said world.new)) }
+    ensures { Comes exit_of (meaning.change_does (around on.now) (length_in on.now) (place_meant (around on.now) found.now.place) found.now.change) (point state.old (W.said world.old)) result (point state.new (W.said world.new)) }
 {
-    let at = place(on, world, state, more, &found.place)?;
+    let at = place(on, world, state, nesting, &found.place)?;
     let name = found.place.name.bytes.as_slice();
     let value = match &found.change {
-        Change::Set(e) => expression(on, world, state, more, e)?,
-        Change::Add(e) => updated(on, world, state, more, name, at, Operator::Add, e)?,
-        Change::Subtract(e) => updated(on, world, state, more, name, at, Operator::Subtract, e)?,
-        Change::Multiply(e) => updated(on, world, state, more, name, at, Operator::Multiply, e)?,
+        Change::Set(e) => expression(on, world, state, nesting, e)?,
+        Change::Add(e) => updated(on, world, state, nesting, name, at, Operator::Add, e)?,
+        Change::Subtract(e) => updated(on, world, state, nesting, name, at, Operator::Subtract, e)?,
+        Change::Multiply(e) => updated(on, world, state, nesting, name, at, Operator::Multiply, e)?,
         Change::Increment => operated(Operator::Add, state.value_at(name, at), Value::Int(1))?,
         Change::Decrement => operated(Operator::Subtract, state.value_at(name, at), Value::Int(1))?,
     };
@@ -398,16 +399,16 @@ fn updated<'a, W: World>(
     on: &Context<'_, 'a>,
     world: &mut W,
     state: &mut State<'a>,
-    more: u32,
+    nesting: u32,
     name: &[u8],
     at: usize,
     operator: Operator,
     right: &'a Expr,
 ) -> Result<Value, Stop>
-    ensures { Comes same (new_value (around on.now more) name.now at operator (value (around on.now more) right.now)) (point state.old (W.said world.old)) result (point state.new (W.said world.new)) }
+    ensures { Comes same (new_value (around on.now) name.now at operator (value (around on.now) right.now)) (point state.old (W.said world.old)) result (point state.new (W.said world.new)) }
 {
     let old = state.value_at(name, at);
-    let value = expression(on, world, state, more, right)?;
+    let value = expression(on, world, state, nesting, right)?;
     Ok(operated(operator, old, value)?)
 }
 
@@ -416,12 +417,12 @@ fn print<'a, W: World>(
     on: &Context<'_, 'a>,
     world: &mut W,
     state: &mut State<'a>,
-    more: u32,
+    nesting: u32,
     found: &'a Print,
 ) -> Result<Exit, Stop>
-    ensures { Comes exit_of (meaning.print_does (around on.now more) (length_in on.now) found.now) (point state.old (W.said world.old)) result (point state.new (W.said world.new)) }
+    ensures { Comes exit_of (meaning.print_does (around on.now) (length_in on.now) found.now) (point state.old (W.said world.old)) result (point state.new (W.said world.new)) }
 {
-    let values = printed(on, world, state, more, found.arguments.as_slice())?;
+    let values = printed(on, world, state, nesting, found.arguments.as_slice())?;
     let bytes = filled(on.alloc, found.format.bytes.as_slice(), values.as_slice())?;
     state.print(bytes.as_slice())?;
     Ok(Exit::WentOn)
@@ -432,14 +433,14 @@ fn printed<'a, W: World>(
     on: &Context<'_, 'a>,
     world: &mut W,
     state: &mut State<'a>,
-    more: u32,
+    nesting: u32,
     all: &'a [Spanned],
 ) -> Result<Vec<Value>, Stop>
-    ensures { Comes (λ values. values.items) (each (map (λ x. value (around on.now more) x.expr) all.now)) (point state.old (W.said world.old)) result (point state.new (W.said world.new)) }
+    ensures { Comes (λ values. values.items) (each (map (λ x. value (around on.now) x.expr) all.now)) (point state.old (W.said world.old)) result (point state.new (W.said world.new)) }
 {
     let mut values = Vec::new(on.alloc);
     for i in 0..all.len() {
-        let value = expression(on, world, state, more, &all[i].expr)?;
+        let value = expression(on, world, state, nesting, &all[i].expr)?;
         values.reserve(1)?;
         values.push_reserved(value);
     }
