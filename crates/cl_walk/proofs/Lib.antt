@@ -1,6 +1,7 @@
 pub mod Walking
 pub mod States
 pub mod Fields
+pub mod Printing
 pub mod GroundInitial
 pub mod GroundLists
 pub mod GroundOuter

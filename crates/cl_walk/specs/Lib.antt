@@ -6,4 +6,5 @@ pub mod Rules
 pub mod Callables
 pub mod Cells
 pub mod Walked
+pub mod Formats
 pub mod Endings

@@ -1,6 +1,6 @@
 //! Expressions, and calls of functions.
 
-ghost use Rattle.std.specs.Prelude.{◌≡◌, ◌∷◌, [], map, Some, IfOk};
+ghost use Rattle.std.specs.Prelude.{◌≡◌, ◌∷◌, [], map, Some, MatchResult};
 ghost use Rattle.cl_value.specs.LiveViews.{plain_part};
 ghost use Rattle.cl_model.specs.Doing.{each, through, checked};
 ghost use Rattle.cl_meaning.specs.Outer.{frame_cells, functions_of};
@@ -315,7 +315,7 @@ fn aim<'a, W: World>(
 }
 
 fn text(on: &Context<'_, '_>, found: &Text) -> Result<Value, Stop>
-    ensures { IfOk result (λ v. v ≡ Value.Text ((fixed_in on.now).text found.now.bytes)) }
+    ensures { MatchResult result (λ v. v ≡ Value.Text ((fixed_in on.now).text found.now.bytes)) (λ stop. stop ≡ Stop.NoMemory) }
 {
     match on.program.text_number(found.bytes.as_slice()) {
         Some(number) => Ok(Value::Text(number)),

@@ -1,6 +1,6 @@
 //! Values that the text itself tells.
 
-ghost use Rattle.std.specs.Prelude.{◌≡◌, [], ◌∷◌, replicate, IfSome, IfOk};
+ghost use Rattle.std.specs.Prelude.{◌≡◌, [], ◌∷◌, replicate, IfSome, MatchResult};
 ghost use Rattle.cl_meaning.specs.Operators as operators;
 ghost use Rattle.cl_meaning.specs.Outer as outside;
 
@@ -54,7 +54,7 @@ pub fn with_sign(is_negative: bool, value: Value) -> Option<Value>
 
 /// So many equal values.
 pub fn zeros(alloc: Global, of: TypeName, count: u64) -> Result<Vec<Value>, Stop>
-    ensures { IfOk result (λ values. values.items ≡ replicate count (operators.zero_of of)) }
+    ensures { MatchResult result (λ values. values.items ≡ replicate count (operators.zero_of of)) (λ stop. stop ≡ Stop.NoMemory) }
 {
     let mut values = Vec::new(alloc);
     let Ok(count) = usize::try_from(count) else {
@@ -70,7 +70,7 @@ pub fn zeros(alloc: Global, of: TypeName, count: u64) -> Result<Vec<Value>, Stop
 
 /// One value.
 pub fn single(alloc: Global, value: Value) -> Result<Vec<Value>, Stop>
-    ensures { IfOk result (λ values. values.items ≡ value ∷ []) }
+    ensures { MatchResult result (λ values. values.items ≡ value ∷ []) (λ stop. stop ≡ Stop.NoMemory) }
 {
     let mut values = Vec::new(alloc);
     values.reserve(1)?;

@@ -9,5 +9,6 @@ returns-then-depth-ge64 g c = spawn_deep c.args.depth c.args.site (map plain_par
 
 pub returns : goal.returns
 returns g c = elim c.match-ask.branch [
-    in-Paused w ↦ rw w.result-is (spawn_pauses c.args.depth c.args.site (map plain_part c.args.fields.items) c.args.state.now (g.W.World.said c.args.world.now) (g.W.World.said c.ask.new.self) c.if-depth-ge64.false (rw c.new.ensures at w.in-Paused.ensures))
-    | in_default w ↦ rw (w.result-is, w.truth.ensures) (spawn_goes c.args.depth c.args.site (map plain_part c.args.fields.items) c.args.state.now (g.W.World.said c.args.world.now) (g.W.World.said c.ask.new.self) c.if-depth-ge64.false c.ask.result w.in_default.not-Paused (rw c.new.ensures at c.ask.ensures)) ]
+  | in-Paused w ↦ rw w.result-is (spawn_pauses c.args.depth c.args.site (map plain_part c.args.fields.items) c.args.state.now (g.W.World.said c.args.world.now) (g.W.World.said c.ask.new.self) c.if-depth-ge64.false (rw c.new.ensures at w.in-Paused.ensures))
+  | in_default w ↦ rw (w.result-is, w.truth.ensures) (spawn_goes c.args.depth c.args.site (map plain_part c.args.fields.items) c.args.state.now (g.W.World.said c.args.world.now) (g.W.World.said c.ask.new.self) c.if-depth-ge64.false c.ask.result w.in_default.not-Paused (rw c.new.ensures at c.ask.ensures))
+]
