@@ -9,3 +9,4 @@ pub mod GroundCells
 pub mod GroundFrames
 pub mod Sequences
 pub mod Turning
+pub mod GroundCallables
