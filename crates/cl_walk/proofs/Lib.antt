@@ -10,3 +10,5 @@ pub mod GroundFrames
 pub mod Sequences
 pub mod Turning
 pub mod GroundCallables
+pub mod ExpressionRules
+pub mod Named
