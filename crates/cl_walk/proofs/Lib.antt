@@ -12,3 +12,6 @@ pub mod Turning
 pub mod GroundCallables
 pub mod ExpressionRules
 pub mod Named
+pub mod FieldRules
+pub mod OperationRules
+pub mod LiveCalls

@@ -1,5 +1,5 @@
 -- What is done by the function of a name. (This project.)
-use Rattle.std.proofs.Common.{◌≡◌, ◌∙◌, sym, refl, true, false, List, [], ◌∷◌, Some, None, inl, inr}
+use Rattle.std.proofs.Common.{◌≡◌, ◌∙◌, refl, true, false, List, [], ◌∷◌, Some, None, inl, inr}
 use Rattle.std.proofs.lemmas.Bool.{cases_Bool}
 use Rattle.cl_ast.specs.declared.statement.Function.{Function}
 use Rattle.cl_listing.specs.Names.{Name, same_name}
