@@ -56,13 +56,13 @@ module _ (around : Surroundings) (l : Link) (before : Value) where
   or_tests operator zero = rw (operator, zero) refl
 
   module _ (from to : Point) where
-    pub test_stops : IsTested → (stop : Stop) → Comes {B = Value} same (value around (out-Link l).operand) from (Err stop) to → Comes {B = Value} same (link_value around l before) from (Err stop) to
+    pub right_stops : IsTested → (stop : Stop) → Comes {B = Value} same (value around (out-Link l).operand) from (Err stop) to → Comes {B = Value} same (link_value around l before) from (Err stop) to
     unfolding truth_of
-    test_stops tested stop w = subst (λ p. Comes {B = Value} same p from (Err stop) to) (sym tested) (up same same (value around (out-Link l).operand) (λ v. pure (truth (not (is_zero v)))) from to stop w)
+    right_stops tested stop w = subst (λ p. Comes {B = Value} same p from (Err stop) to) (sym tested) (up same same (value around (out-Link l).operand) (λ v. pure (truth (not (is_zero v)))) from to stop w)
 
-    pub test_gives : IsTested → (right v : Value) → v ≡ truth (not (is_zero right)) → Comes same (value around (out-Link l).operand) from (Ok right) to → Comes same (link_value around l before) from (Ok v) to
+    pub right_gives : IsTested → (right v : Value) → v ≡ truth (not (is_zero right)) → Comes same (value around (out-Link l).operand) from (Ok right) to → Comes same (link_value around l before) from (Ok v) to
     unfolding truth_of
-    test_gives tested right v is w = subst (λ p. Comes same p from (Ok v) to) (sym tested) (on_pure same same (value around (out-Link l).operand) (λ b. truth (not (is_zero b))) from to right v is w)
+    right_gives tested right v is w = subst (λ p. Comes same p from (Ok v) to) (sym tested) (on_pure same same (value around (out-Link l).operand) (λ b. truth (not (is_zero b))) from to right v is w)
 
   joins : (operator : Operator) (right : Does Value) → (operator ≡ operators.And → ⊥) → (operator ≡ operators.Or → ⊥) → joined operator right before ≡ right >>= (λ b. checked (operated operator before b))
   unfolding joined
