@@ -7,3 +7,4 @@ pub mod GroundLists
 pub mod GroundOuter
 pub mod GroundCells
 pub mod GroundFrames
+pub mod Arguments
