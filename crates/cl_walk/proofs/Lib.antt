@@ -8,3 +8,4 @@ pub mod GroundOuter
 pub mod GroundCells
 pub mod GroundFrames
 pub mod Arguments
+pub mod Indices
