@@ -15,14 +15,15 @@ loop-i-init c = λ s. rw c.new-all.ensures.items (taking_begins arguments argume
 
 pub loop-i-preserved : goal.loop-i-preserved
 loop-i-preserved c = elim c.if-i-values.branch [
-    then-i-values+in_ok-value+in_ok-reserve w ↦ λ s.
-        let q = w.index-parameters-i.result in
-        let ps = c.as_slice-parameters.result.now in
-        let vs = c.args.values.now in
-        let i = c.loop-i.i in
-        let more : w.push.new.self.items ≡ c.loop-i.all.items ++ w.in_ok-value.value ∷ [] = w.push.ensures.items ∙ ap (λ xs. xs ++ w.in_ok-value.value ∷ []) w.reserve.ensures.items in
-        rw (w.all-is, more) (taking_next arguments argument arguments_taken ps vs i c.loop-i.all.items c.loop-i.invariant q (Int (pos 0)) w.in_ok-value.value c.loop-i-test.true w.if-i-values.true (argument_gives (get_or ps i q) (get_or vs i (Int (pos 0))) w.converted.result w.converted.ensures w.in_ok-value.value w.in_ok-value.was) s)
-    | else-i-values w ↦ λ s. rw w.all-is (taking_skips arguments argument arguments_taken c.as_slice-parameters.result.now c.args.values.now c.loop-i.i c.loop-i.all.items c.loop-i.invariant w.if-i-values.false s) ]
+  | then-i-values+in_ok-value+in_ok-reserve w ↦ λ s.
+      let q = w.index-parameters-i.result in
+      let ps = c.as_slice-parameters.result.now in
+      let vs = c.args.values.now in
+      let i = c.loop-i.i in
+      let more : w.push.new.self.items ≡ c.loop-i.all.items ++ w.in_ok-value.value ∷ [] = w.push.ensures.items ∙ ap (λ xs. xs ++ w.in_ok-value.value ∷ []) w.reserve.ensures.items in
+      rw (w.all-is, more) (taking_next arguments argument arguments_taken ps vs i c.loop-i.all.items c.loop-i.invariant q (Int (pos 0)) w.in_ok-value.value c.loop-i-test.true w.if-i-values.true (argument_gives (get_or ps i q) (get_or vs i (Int (pos 0))) w.converted.result w.converted.ensures w.in_ok-value.value w.in_ok-value.was) s)
+  | else-i-values w ↦ λ s. rw w.all-is (taking_skips arguments argument arguments_taken c.as_slice-parameters.result.now c.args.values.now c.loop-i.i c.loop-i.all.items c.loop-i.invariant w.if-i-values.false s)
+]
 
 pub returns-in_err-value : goal.returns-in_err-value
 returns-in_err-value c = λ p.

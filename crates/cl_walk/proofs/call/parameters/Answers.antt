@@ -22,23 +22,24 @@ loop-i-init c =
 
 pub loop-i-preserved : goal.loop-i-preserved
 loop-i-preserved c = elim c.if-i-values.branch [
-    then-i-values+in_ok-value+in_ok-add_parameter w ↦
-        let q = w.index-all-i.result in
-        let ps = c.as_slice-all.result.now in
-        let vs = c.args.values.now in
-        let i = c.loop-i.i in
-        let v : Variable = record { name = q.name.bytes; of = q.type_name; values = w.in_ok-value.value ∷ [] } in
-        let is = w.converted.ensures ∙ ap (λ (p : Parameter). converted p.type_name (get_or vs i (Int (pos 0)))) w.index-all-i.is in
-        let means : v ≡ record { name = (get_or ps i q).name.bytes; of = (get_or ps i q).type_name; values = w.in_ok-value.value ∷ [] } = ap (λ (p : Parameter). record { name = p.name.bytes; of = p.type_name; values = w.in_ok-value.value ∷ [] }) w.index-all-i.is in
-        let grows = scope_grows c.loop-i.locals w.add_parameter.new.locals v c.loop-i.invariant.alone w.in_ok-add_parameter.ensures in
-        record {
-          taken = λ s. rw (w.locals-is, grows.0) (taking_next parameters parameter parameters_taken ps vs i (scope_in c.loop-i.locals) c.loop-i.invariant.taken q (Int (pos 0)) v c.loop-i-test.true w.if-i-values.true (parameter_gives (get_or ps i q) (get_or vs i (Int (pos 0))) w.converted.result is w.in_ok-value.value v w.in_ok-value.was means) s);
-          alone = rw w.locals-is grows.1;
-        }
-    | else-i-values w ↦ record {
-        taken = λ s. rw w.locals-is (taking_skips parameters parameter parameters_taken c.as_slice-all.result.now c.args.values.now c.loop-i.i (scope_in c.loop-i.locals) c.loop-i.invariant.taken w.if-i-values.false s);
-        alone = rw w.locals-is c.loop-i.invariant.alone;
-      } ]
+  | then-i-values+in_ok-value+in_ok-add_parameter w ↦
+      let q = w.index-all-i.result in
+      let ps = c.as_slice-all.result.now in
+      let vs = c.args.values.now in
+      let i = c.loop-i.i in
+      let v : Variable = record { name = q.name.bytes; of = q.type_name; values = w.in_ok-value.value ∷ [] } in
+      let is = w.converted.ensures ∙ ap (λ (p : Parameter). converted p.type_name (get_or vs i (Int (pos 0)))) w.index-all-i.is in
+      let means : v ≡ record { name = (get_or ps i q).name.bytes; of = (get_or ps i q).type_name; values = w.in_ok-value.value ∷ [] } = ap (λ (p : Parameter). record { name = p.name.bytes; of = p.type_name; values = w.in_ok-value.value ∷ [] }) w.index-all-i.is in
+      let grows = scope_grows c.loop-i.locals w.add_parameter.new.locals v c.loop-i.invariant.alone w.in_ok-add_parameter.ensures in
+      record {
+        taken = λ s. rw (w.locals-is, grows.0) (taking_next parameters parameter parameters_taken ps vs i (scope_in c.loop-i.locals) c.loop-i.invariant.taken q (Int (pos 0)) v c.loop-i-test.true w.if-i-values.true (parameter_gives (get_or ps i q) (get_or vs i (Int (pos 0))) w.converted.result is w.in_ok-value.value v w.in_ok-value.was means) s);
+        alone = rw w.locals-is grows.1;
+      }
+  | else-i-values w ↦ record {
+    taken = λ s. rw w.locals-is (taking_skips parameters parameter parameters_taken c.as_slice-all.result.now c.args.values.now c.loop-i.i (scope_in c.loop-i.locals) c.loop-i.invariant.taken w.if-i-values.false s);
+    alone = rw w.locals-is c.loop-i.invariant.alone;
+  }
+]
 
 pub returns-in_err-value-clause-comes : goal.returns-in_err-value-clause-comes
 returns-in_err-value-clause-comes c = λ p.
