@@ -9,3 +9,6 @@ pub mod GroundCells
 pub mod GroundFrames
 pub mod Arguments
 pub mod Indices
+pub mod Sequences
+pub mod Turning
+pub mod GroundCallables
