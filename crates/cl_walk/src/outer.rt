@@ -78,11 +78,7 @@ fn value_type(value: Value) -> TypeName
     }
 }
 
-fn add_constant<'a>(
-    alloc: Global,
-    scope: &mut Globals<'a>,
-    define: &'a Define,
-) -> Result<(), Stop>
+fn add_constant<'a>(alloc: Global, scope: &mut Globals<'a>, define: &'a Define) -> Result<(), Stop>
     ensures { OnOk result (scope.new ≡ outside.outer_from scope.old (Item.Define define.now ∷ [])) }
 {
     let Some(value) = with_sign(define.is_negative, literal(define.literal.value)) else {
