@@ -1,2 +1,4 @@
 pub mod Walking
 pub mod GroundInitial
+pub mod GroundLists
+pub mod GroundOuter
