@@ -2,3 +2,4 @@ pub mod Walking
 pub mod GroundInitial
 pub mod GroundLists
 pub mod GroundOuter
+pub mod GroundCells

@@ -1,6 +1,6 @@
 //! How many cells globals and frames take. A number that 64 bits don't hold is the greatest that they do.
 
-ghost use Rattle.std.specs.Prelude.{◌≡◌, map, Option, option_map};
+ghost use Rattle.std.specs.Prelude.{◌≡◌, [], ◌∷◌, map, Option, option_map};
 ghost use Rattle.cl_meaning.specs.Outer as outside;
 ghost use Rattle.cl_meaning.specs.Outer.{size_in};
 ghost use Rattle.cl_walk.specs.Numbers.{capped};
@@ -30,15 +30,22 @@ fn declarator_cells(scope: &Globals<'_>, declarators: &[Declarator]) -> u64
     all
 }
 
+fn item_cells(scope: &Globals<'_>, item: &Item) -> u64
+    ensures { result ≡ capped (outside.global_cells (size_in scope.now) (item.now ∷ [])) }
+{
+    match item {
+        Item::Variables(variables) => declarator_cells(scope, variables.declarators.as_slice()),
+        Item::Define(_) | Item::Function(_) => 0,
+    }
+}
+
 /// The cells of the globals.
 pub fn global_cells(scope: &Globals<'_>, items: &[Item]) -> u64
     ensures { result ≡ capped (outside.global_cells (size_in scope.now) items.now) }
 {
     let mut all: u64 = 0;
     for item in items {
-        if let Item::Variables(variables) = item {
-            all = all.saturating_add(declarator_cells(scope, variables.declarators.as_slice()));
-        }
+        all = all.saturating_add(item_cells(scope, item));
     }
     all
 }
