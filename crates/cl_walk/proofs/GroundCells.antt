@@ -1,12 +1,12 @@
 -- How numbers of cells add up. (This project.)
-use Rattle.std.proofs.Common.{◌≡◌, ◌∙◌, ◌<◌, ◌≤◌, ◌+◌, ◌-◌, ◌^◌, min, ap, sym, refl, ℕ, List, [], ◌∷◌, drop, length, get_or, arith}
+use Rattle.std.proofs.Common.{◌≡◌, ◌∙◌, ◌<◌, ◌≤◌, ◌+◌, ◌-◌, ◌^◌, min, ap, sym, refl, ℕ, List, [], ◌∷◌, map, drop, length, get_or, arith}
 use Rattle.std.specs.Prelude.{nat_lt, if◌then◌else◌}
 use Rattle.std.proofs.lemmas.Bool.Decides.{nat_tests}
 use Rattle.cl_ast.specs.declared.statement.Declarator.{Declarator}
 use Rattle.cl_ast.specs.declared.statement.Size.{Size}
 use Rattle.cl_ast.specs.declared.statement.Item.{Item}
 use Rattle.cl_ast.specs.declared.statement.Item.TheVariants as items
-use Rattle.cl_meaning.specs.Outer.{form_cells, declarator_cells, global_cells}
+use Rattle.cl_meaning.specs.Outer.{form_cells, declarator_cells, global_cells, total}
 use Rattle.cl_walk.specs.Numbers.{capped}
 use Rattle.cl_walk.proofs.GroundLists.{at_index, drop_end}
 
@@ -66,3 +66,13 @@ module _ (length_of : Size → ℕ) where
 
   pub items_end : (xs : List Item) (i : ℕ) (all : ℕ) → Adds (global_cells length_of xs) (global_cells length_of (drop i xs)) all → length xs ≤ i → all ≡ capped (global_cells length_of xs)
   items_end xs i all adds past = adds_end (global_cells length_of xs) (global_cells length_of (drop i xs)) all adds (ap (global_cells length_of) (drop_end xs i past))
+
+-- ---- of a list of parts
+
+module _ {A : Type 0} (f : A → ℕ) where
+  pub parts_on : (xs : List A) (i : ℕ) (x : A) (all y r : ℕ) → Adds (total (map f xs)) (total (map f (drop i xs))) all → i < length xs → x ≡ get_or xs i x → y ≡ capped (f x) → r ≡ min (all + y) (2 ^ 64 - 1) →
+      Adds (total (map f xs)) (total (map f (drop (i + 1) xs))) r
+  parts_on xs i x all y r adds few is yx rs = adds_on (total (map f xs)) (total (map f (drop i xs))) (total (map f (drop (i + 1) xs))) (f x) all y r adds (ap (λ ys. total (map f ys)) (at_index xs i x few is)) yx rs
+
+  pub parts_end : (xs : List A) (i : ℕ) (all : ℕ) → Adds (total (map f xs)) (total (map f (drop i xs))) all → length xs ≤ i → all ≡ capped (total (map f xs))
+  parts_end xs i all adds past = adds_end (total (map f xs)) (total (map f (drop i xs))) all adds (ap (λ ys. total (map f ys)) (drop_end xs i past))

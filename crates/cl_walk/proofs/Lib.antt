@@ -3,3 +3,4 @@ pub mod GroundInitial
 pub mod GroundLists
 pub mod GroundOuter
 pub mod GroundCells
+pub mod GroundFrames
