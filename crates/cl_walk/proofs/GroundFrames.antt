@@ -1,5 +1,5 @@
 -- The cells of the locals of statements, as equations at each form. (This project.)
-use Rattle.std.proofs.Common.{◌≡◌, ◌∙◌, ◌+◌, ap, sym, refl, ℕ, List, [], ◌∷◌, map, Option, Some, None}
+use Rattle.std.proofs.Common.{◌≡◌, ◌∙◌, ◌+◌, ap, sym, refl, ℕ, List, [], ◌∷◌, map, length, Option, Some, None}
 use Rattle.std.specs.Prelude.{option_map}
 use denote.Hole.Carrier.{out, roll-out}
 use Rattle.cl_ast.specs.declared.span.Span.{Span}
@@ -17,12 +17,13 @@ use Rattle.cl_ast.specs.declared.statement.Variables.{Variables}
 use Rattle.cl_ast.specs.declared.statement.Assign.{Assign}
 use Rattle.cl_ast.specs.declared.statement.Print.{Print}
 use Rattle.cl_ast.specs.declared.statement.Return.{Return}
+use Rattle.cl_ast.specs.declared.statement.Function.{Function}
 use Rattle.cl_ast.specs.declared.statement.Size.{Size}
 use Rattle.cl_ast.specs.declared.statement.Stmt.TheFolds as s
 use Rattle.cl_ast.specs.declared.statement.Stmt.TheBlock as s'
 use Rattle.cl_ast.specs.declared.statement.Stmt.TheOpen.{Stmt-F, Block-F, Do-F, For-F, If-F, While-F}
 use Rattle.cl_ast.specs.declared.statement.Stmt.TheViews.{roll-Stmt}
-use Rattle.cl_meaning.specs.Outer.{stmt_cells, declarator_cells, total, or_no_cells}
+use Rattle.cl_meaning.specs.Outer.{frame_cells, stmt_cells, declarator_cells, total, or_no_cells}
 use Rattle.cl_listing.proofs.Opens.{gd, gf, gi, gw, stmt_rolls, block_opens, do_opens, for_opens, if_opens, while_opens}
 use Rattle.cl_walk.specs.Cells.{cells_of_stmt, cells_of_block, cells_of_maybe}
 
@@ -115,3 +116,8 @@ module _ (length_of : Size → ℕ) where
       by (Stmt-F.Break y) is = ap (cells_of_stmt length_of) (sym is) ∙ rolls (Stmt-F.Break y)
       by (Stmt-F.Continue y) is = ap (cells_of_stmt length_of) (sym is) ∙ rolls (Stmt-F.Continue y)
       by (Stmt-F.Return y) is = ap (cells_of_stmt length_of) (sym is) ∙ rolls (Stmt-F.Return y)
+
+-- a frame has its parameters and what its body has
+pub cells_in_frame : (length_of : Size → ℕ) (f : Function) → frame_cells length_of f ≡ length f.parameters + cells_of_block length_of f.body
+unfolding frame_cells cells_of_block
+cells_in_frame length_of f = refl
