@@ -1,5 +1,6 @@
 -- Lists that are walked from the front. (This project.)
-use Rattle.std.proofs.Common.{◌≡◌, ◌∙◌, ◌<◌, ◌≤◌, ◌+◌, ap, sym, refl, ℕ, zero, suc, List, [], ◌∷◌, drop, length, get_or, arith, add-one}
+use Rattle.std.proofs.Common.{◌≡◌, ◌∙◌, ◌<◌, ◌≤◌, ◌+◌, ap, sym, refl, ℕ, zero, suc, List, [], ◌∷◌, drop, length, get_or, Some, None, arith, add-one}
+use Rattle.std.specs.Prelude.{slice_get}
 
 drop_next : {A : Type 0} (xs : List A) (i : ℕ) (x : A) → i < length xs → drop i xs ≡ get_or xs i x ∷ drop (suc i) xs
 drop_next [] i x few = absurd (omega arith)
@@ -15,3 +16,13 @@ drop_end [] zero h = refl
 drop_end [] (suc i) h = refl
 drop_end (x ∷ xs) zero h = absurd (omega arith)
 drop_end (x ∷ xs) (suc i) h = drop_end xs i (omega arith)
+
+pub got : {A : Type 0} (xs : List A) (i : ℕ) (x : A) → i < length xs → x ≡ get_or xs i x → slice_get xs i ≡ Some x
+got [] i x few is = absurd (omega arith)
+got (y ∷ xs) zero x few is = ap Some (sym is)
+got (y ∷ xs) (suc i) x few is = got xs i x (omega arith) is
+
+pub missed : {A : Type 0} (xs : List A) (i : ℕ) → length xs ≤ i → slice_get xs i ≡ None
+missed [] i past = refl
+missed (y ∷ xs) zero past = absurd (omega arith)
+missed (y ∷ xs) (suc i) past = missed xs i (omega arith)

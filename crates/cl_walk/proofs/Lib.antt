@@ -4,3 +4,4 @@ pub mod GroundLists
 pub mod GroundOuter
 pub mod GroundCells
 pub mod GroundFrames
+pub mod GroundCallables
