@@ -8,9 +8,10 @@ use Rattle.cl_ast.specs.declared.statement.Function.{Function}
 use Rattle.cl_listing.specs.Names.{Name, same_name}
 use Rattle.cl_state.specs.Views.{first_or}
 use Rattle.cl_meaning.specs.Variables.{Scope}
-use Rattle.cl_meaning.specs.Outer.{number_of, frame_cells, size_in}
+use Rattle.cl_ast.specs.declared.statement.Item.{Item}
+use Rattle.cl_meaning.specs.Outer.{outer, functions_of, number_of, frame_cells, size_in}
 use Rattle.cl_walk.specs.Numbers.{capped, place_named, first_named}
-use Rattle.cl_walk.specs.Callables.{AreCallables}
+use Rattle.cl_walk.specs.Callables.{AreCallables, AreListed, IsNamed}
 use Rattle.cl_walk.specs.declared.program.Callable.{Callable}
 
 -- ---- one for each function
@@ -165,3 +166,19 @@ noted own name n old new is none =
     stays : (o : Option ℕ) → pointwise nat_eq own name ≡ false → first_or own n name o ≡ o
     stays (Some k) other = refl
     stays None other = ap (λ test. if test then Some n else None) other
+
+-- ---- what is found
+
+pub named_within : (scope : Scope) (name : Name) (k : ℕ) (fs : List Function) (cs : List Callable) → AreCallables scope 0 fs cs → place_named name fs ≡ Some k → k < length cs
+named_within scope name k fs cs are at =
+    let long = callables_long scope 0 fs cs are in
+    let within = (stands name k fs at).within in
+    omega arith
+
+pub named_told : (xs : List Item) (name : Name) (k : ℕ) (cs : List Callable) (c : Bor Callable) → AreCallables (outer xs) 0 (functions_of xs) cs → place_named name (functions_of xs) ≡ Some k → slice_get cs k ≡ Some c.now → IsNamed xs name (Some c)
+named_told xs name k cs c are at here =
+    let st = stands name k (functions_of xs) at in
+    let told = callable_at (outer xs) 0 k (functions_of xs) cs c.now are here in
+    let number = told.number in
+    let same : k ≡ c.now.number = omega (arith, number) in
+    (sym st.function ∙ told.function, st.number ∙ same, told.cells)

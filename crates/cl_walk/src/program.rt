@@ -54,14 +54,85 @@ impl<'a> Model for Program<'a> {
     ghost invariant = { λ p. (p.listing ≡ listing_of (in_items p.unit.now.items)) × (p.scope ≡ outer p.unit.now.items) × (p.cells ≡ capped (cells_of_globals p.unit.now.items)) × AreCallables (outer p.unit.now.items) 0 (functions_of p.unit.now.items) p.functions.items × ((name : Bor (List ℕ)) → get (λ a b. pointwise nat_eq a.now b.now) p.places name ≡ place_named name.now (functions_of p.unit.now.items)) };
 }
 
+ghost use Rattle.std.specs.Prelude.{ℕ, ◌≡◌, List, [], ◌∷◌, ◌++◌, nat_eq, OnOk, OnErr};
+ghost use Rattle.std.specs.Borrow.{Bor};
+ghost use Rattle.std.specs.Cmp.Lexicographic.{pointwise};
+ghost use Rattle.indexmap.specs.IndexMap.{get};
+ghost use Rattle.cl_state.specs.Views.{first_or};
+ghost use Rattle.cl_meaning.specs.Outer.{functions_of};
+ghost use Rattle.cl_walk.specs.Callables.{AreListed};
+
+// The place that is kept of a name.
+fn place_of(places: &IndexMap<&[u8], usize>, name: &[u8]) -> Option<usize>
+    ensures { result ≡ get (λ a b. pointwise nat_eq a.now b.now) places.now name.entry }
+{
+    places.get(name).copied()
+}
+
 // Keeps the place of a name, unless one is kept.
 fn note<'a>(
     places: &mut IndexMap<&'a [u8], usize>,
     name: &'a [u8],
     place: usize,
-) -> Result<(), AllocError> {
-    if places.get(name).is_none() {
-        places.insert(name, place)?;
+) -> Result<(), AllocError>
+    ensures { OnOk result ((q : Bor (List ℕ)) → get (λ a b. pointwise nat_eq a.now b.now) places.new q ≡ first_or name.now place q.now (get (λ a b. pointwise nat_eq a.now b.now) places.old q)) }
+{
+    match place_of(places, name) {
+        Some(_) => Ok(()),
+        None => {
+            places.insert(name, place)?;
+            Ok(())
+        }
+    }
+}
+
+// Lists one function more, behind those that are listed.
+fn add_function<'a>(
+    scope: &Globals<'_>,
+    functions: &mut Vec<Callable<'a>>,
+    places: &mut IndexMap<&'a [u8], usize>,
+    function: &'a Function,
+) -> Result<(), Stop>
+    ensures { OnOk result ((fs : List Function) → AreListed scope.now fs functions.old.items (get (λ a b. pointwise nat_eq a.now b.now) places.old) → AreListed scope.now (fs ++ function.now ∷ []) functions.new.items (get (λ a b. pointwise nat_eq a.now b.now) places.new)) }
+{
+    let Ok(number) = u32::try_from(functions.len()) else {
+        return Err(Stop::NoMemory);
+    };
+    functions.reserve(1)?;
+    note(places, function.name.bytes.as_slice(), functions.len())?;
+    functions.push_reserved(Callable {
+        function,
+        number,
+        cells: frame_cells(scope, function),
+    });
+    Ok(())
+}
+
+fn add_item<'a>(
+    scope: &Globals<'_>,
+    functions: &mut Vec<Callable<'a>>,
+    places: &mut IndexMap<&'a [u8], usize>,
+    item: &'a Item,
+) -> Result<(), Stop>
+    ensures { OnOk result ((fs : List Function) → AreListed scope.now fs functions.old.items (get (λ a b. pointwise nat_eq a.now b.now) places.old) → AreListed scope.now (fs ++ functions_of (item.now ∷ [])) functions.new.items (get (λ a b. pointwise nat_eq a.now b.now) places.new)) }
+{
+    match item {
+        Item::Function(function) => add_function(scope, functions, places, function),
+        Item::Define(_) | Item::Variables(_) => Ok(()),
+    }
+}
+
+// Lists the functions of a text, where none is listed.
+fn add_items<'a>(
+    scope: &Globals<'_>,
+    functions: &mut Vec<Callable<'a>>,
+    places: &mut IndexMap<&'a [u8], usize>,
+    items: &'a [Item],
+) -> Result<(), Stop>
+    ensures { OnOk result (AreListed scope.now [] functions.old.items (get (λ a b. pointwise nat_eq a.now b.now) places.old) → AreListed scope.now (functions_of items.now) functions.new.items (get (λ a b. pointwise nat_eq a.now b.now) places.new)) }
+{
+    for item in items {
+        add_item(scope, functions, places, item)?;
     }
     Ok(())
 }
@@ -83,20 +154,7 @@ impl<'a> Program<'a> {
         let cells = global_cells(&scope, items);
         let mut functions = Vec::new(alloc);
         let mut places = IndexMap::new(alloc);
-        for item in items {
-            if let Item::Function(function) = item {
-                let Ok(number) = u32::try_from(functions.len()) else {
-                    return Err(Stop::NoMemory);
-                };
-                note(&mut places, function.name.bytes.as_slice(), functions.len())?;
-                functions.reserve(1)?;
-                functions.push_reserved(Callable {
-                    function,
-                    number,
-                    cells: frame_cells(&scope, function),
-                });
-            }
-        }
+        add_items(&scope, &mut functions, &mut places, items)?;
         Ok(Program {
             unit,
             functions,
@@ -111,8 +169,8 @@ impl<'a> Program<'a> {
     pub fn named(&self, name: &[u8]) -> Option<&Callable<'a>>
         ensures { IsNamed self.now.items name.now result }
     {
-        match self.places.get(name) {
-            Some(place) => self.functions.get(*place),
+        match place_of(&self.places, name) {
+            Some(place) => Some(&self.functions[place]),
             None => None,
         }
     }
