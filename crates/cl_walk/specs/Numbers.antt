@@ -1,5 +1,5 @@
 -- Numbers that may be greater than a word of the machine holds. (This project.)
-use Rattle.std.specs.Prelude.{ℕ, ◌-◌, ◌^◌, nat_lt, if◌then◌else◌, List, [], ◌∷◌, Option, Some, None, option_map, slice_get, suc}
+use Rattle.std.specs.Prelude.{ℕ, ◌-◌, ◌^◌, nat_lt, if◌then◌else◌, List, [], ◌∷◌, Option, Some, None, option_map, suc}
 use Rattle.cl_ast.specs.declared.statement.Function.{Function}
 use Rattle.cl_listing.specs.Names.{Name, same_name}
 
