@@ -12,3 +12,4 @@ pub mod Indices
 pub mod Sequences
 pub mod Turning
 pub mod GroundCallables
+pub mod Values
