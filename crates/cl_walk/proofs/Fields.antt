@@ -75,7 +75,7 @@ unfolding fill
 fill_none [] = refl
 fill_none (v ∷ values) = refl
 
-at_next : {A : Type 0} (xs : List A) (i : ℕ) (x : A) → i < length xs → drop i xs ≡ get_or xs i x ∷ drop (i + 1) xs
+pub at_next : {A : Type 0} (xs : List A) (i : ℕ) (x : A) → i < length xs → drop i xs ≡ get_or xs i x ∷ drop (i + 1) xs
 at_next xs i x few = rw (add-one i) (drop-cons xs i x few)
 
 -- the places behind these are still to get their values

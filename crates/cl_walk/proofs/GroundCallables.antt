@@ -1,10 +1,11 @@
 -- Functions that are listed one by one, and the place of the first of each name. (This project.)
-use Rattle.std.proofs.Common.{◌≡◌, ◌∙◌, ◌<◌, ◌≤◌, ◌+◌, ap, sym, refl, ℕ, zero, suc, Bool, true, false, List, [], ◌∷◌, ◌++◌, length, Option, Some, None, arith, inl, inr}
+use Rattle.std.proofs.Common.{◌≡◌, ◌∙◌, ◌<◌, ◌≤◌, ◌+◌, ap, sym, refl, ℕ, zero, suc, Bool, true, false, List, [], ◌∷◌, ◌++◌, length, Option, Some, None, arith, inl, inr, subst, take, get_or, add-one}
 use Rattle.std.specs.Prelude.{option_map, slice_get, if◌then◌else◌, cond, nat_eq}
 use Rattle.std.specs.Borrow.{Bor}
 use Rattle.std.specs.Cmp.Lexicographic.{pointwise, nat_list_eq_equiv}
 use Rattle.std.proofs.lemmas.Bool.{cases_Bool}
 use Rattle.cl_ast.specs.declared.statement.Function.{Function}
+use Rattle.cl_ast.specs.declared.statement.Item.TheVariants as items
 use Rattle.cl_listing.specs.Names.{Name, same_name}
 use Rattle.cl_state.specs.Views.{first_or}
 use Rattle.cl_meaning.specs.Variables.{Scope}
@@ -13,6 +14,7 @@ use Rattle.cl_meaning.specs.Outer.{outer, functions_of, number_of, frame_cells, 
 use Rattle.cl_walk.specs.Numbers.{capped, place_named, first_named}
 use Rattle.cl_walk.specs.Callables.{AreCallables, AreListed, IsNamed}
 use Rattle.cl_walk.specs.declared.program.Callable.{Callable}
+use Rattle.cl_walk.proofs.GroundLists.{take_all}
 
 -- ---- one for each function
 
@@ -182,3 +184,26 @@ named_told xs name k cs c are at here =
     let number = told.number in
     let same : k ≡ c.now.number = omega (arith, number) in
     (sym st.function ∙ told.function, st.number ∙ same, told.cells)
+
+-- ---- lists that grow
+
+pub one_more_listed : (scope : Scope) (fs : List Function) (cs ds : List Callable) (f : Function) (c : Callable) (kept next : Bor Name → Option ℕ) → AreListed scope fs cs kept → c.function.now ≡ f → c.number ≡ length cs → c.cells ≡ capped (frame_cells (size_in scope) f) → ds ≡ cs ++ c ∷ [] →
+    ((q : Bor Name) → next q ≡ first_or f.name.bytes (length cs) q.now (kept q)) → AreListed scope (fs ++ f ∷ []) ds next
+one_more_listed scope fs cs ds f c kept next listed is number cells grown places =
+    let long = callables_long scope 0 fs cs listed.0 in
+    let own : c.number ≡ 0 + length fs = omega arith in
+    (subst (AreCallables scope 0 (fs ++ f ∷ [])) (sym grown) (callables_more scope 0 fs cs f c listed.0 is own cells), λ q. places q ∙ one_more q.now fs f (length cs) (kept q) long (listed.1 q))
+
+functions_next : (xs : List Item) (i : ℕ) (x : Item) → i < length xs → x ≡ get_or xs i x → functions_of (take (suc i) xs) ≡ functions_of (take i xs) ++ functions_of (x ∷ [])
+functions_next [] i x few is = absurd (omega arith)
+functions_next (y ∷ xs) zero x few is = ap (λ z. functions_of (z ∷ [])) (sym is)
+functions_next (items.Define d ∷ xs) (suc i) x few is = functions_next xs i x (omega arith) is
+functions_next (items.Variables v ∷ xs) (suc i) x few is = functions_next xs i x (omega arith) is
+functions_next (items.Function f ∷ xs) (suc i) x few is = ap (λ fs. f ∷ fs) (functions_next xs i x (omega arith) is)
+
+-- one item more
+pub functions_more : (xs : List Item) (i : ℕ) (x : Item) → i < length xs → x ≡ get_or xs i x → functions_of (take i xs) ++ functions_of (x ∷ []) ≡ functions_of (take (i + 1) xs)
+functions_more xs i x few is = sym (ap (λ n. functions_of (take n xs)) (add-one i) ∙ functions_next xs i x few is)
+
+pub functions_all : (xs : List Item) (i : ℕ) → length xs ≤ i → functions_of (take i xs) ≡ functions_of xs
+functions_all xs i past = ap functions_of (take_all xs i past)

@@ -1,11 +1,9 @@
 -- The cells of the locals of statements, as equations at each form. (This project.)
-use Rattle.std.proofs.Common.{◌≡◌, ◌∙◌, ◌+◌, ap, sym, refl, ℕ, List, [], ◌∷◌, map, length, Option, Some, None}
+use Rattle.std.proofs.Common.{◌≡◌, ◌∙◌, ◌+◌, ap, sym, refl, ℕ, map, length, Option, Some, None}
 use Rattle.std.specs.Prelude.{option_map}
 use denote.Hole.Carrier.{out, roll-out}
 use Rattle.cl_ast.specs.declared.span.Span.{Span}
 use Rattle.cl_ast.specs.declared.tree.Expr.{Expr}
-use Rattle.cl_ast.specs.declared.tree.Call.{Call}
-use Rattle.cl_ast.specs.declared.tree.Operation.{Operation}
 use Rattle.cl_ast.specs.declared.statement.Stmt.{Stmt}
 use Rattle.cl_ast.specs.declared.statement.Stmt.TheVariants as stmts
 use Rattle.cl_ast.specs.declared.statement.Block.{Block, out-Block}
@@ -14,9 +12,6 @@ use Rattle.cl_ast.specs.declared.statement.While.{While, out-While}
 use Rattle.cl_ast.specs.declared.statement.Do.{Do, out-Do}
 use Rattle.cl_ast.specs.declared.statement.For.{For, out-For}
 use Rattle.cl_ast.specs.declared.statement.Variables.{Variables}
-use Rattle.cl_ast.specs.declared.statement.Assign.{Assign}
-use Rattle.cl_ast.specs.declared.statement.Print.{Print}
-use Rattle.cl_ast.specs.declared.statement.Return.{Return}
 use Rattle.cl_ast.specs.declared.statement.Function.{Function}
 use Rattle.cl_ast.specs.declared.statement.Size.{Size}
 use Rattle.cl_ast.specs.declared.statement.Stmt.TheFolds as s

@@ -17,8 +17,8 @@ use Rattle.cl_ast.specs.declared.tree.Link.{Link}
 use Rattle.cl_ast.specs.declared.tree.Prefix.{Prefix, out-Prefix}
 use Rattle.cl_ast.specs.declared.tree.Expr.TheFolds as e
 use Rattle.cl_ast.specs.declared.tree.Expr.TheBlock as e'
-use Rattle.cl_ast.specs.declared.tree.Expr.TheOpen.{Expr-F, Place-F, Prefix-F}
-use Rattle.cl_ast.specs.declared.tree.Expr.TheViews.{roll-Expr, out-Expr}
+use Rattle.cl_ast.specs.declared.tree.Expr.TheOpen.{Expr-F, Place-F}
+use Rattle.cl_ast.specs.declared.tree.Expr.TheViews.{roll-Expr}
 use Rattle.cl_model.specs.Numbers.{number}
 use Rattle.cl_meaning.specs.Operators.{literal}
 use Rattle.cl_meaning.specs.Variables.{Scope, in_scope, nowhere}

@@ -1,5 +1,5 @@
 -- Lists that are walked from the front. (This project.)
-use Rattle.std.proofs.Common.{◌≡◌, ◌∙◌, ◌<◌, ◌≤◌, ◌+◌, ap, sym, refl, ℕ, zero, suc, List, [], ◌∷◌, drop, length, get_or, Some, None, arith, add-one}
+use Rattle.std.proofs.Common.{◌≡◌, ◌∙◌, ◌<◌, ◌≤◌, ◌+◌, ap, sym, refl, ℕ, zero, suc, List, [], ◌∷◌, take, drop, length, get_or, Some, None, arith, add-one}
 use Rattle.std.specs.Prelude.{slice_get}
 
 drop_next : {A : Type 0} (xs : List A) (i : ℕ) (x : A) → i < length xs → drop i xs ≡ get_or xs i x ∷ drop (suc i) xs
@@ -26,3 +26,9 @@ pub missed : {A : Type 0} (xs : List A) (i : ℕ) → length xs ≤ i → slice_
 missed [] i past = refl
 missed (y ∷ xs) zero past = absurd (omega arith)
 missed (y ∷ xs) (suc i) past = missed xs i (omega arith)
+
+pub take_all : {A : Type 0} (xs : List A) (i : ℕ) → length xs ≤ i → take i xs ≡ xs
+take_all [] zero past = refl
+take_all [] (suc i) past = refl
+take_all (y ∷ xs) zero past = absurd (omega arith)
+take_all (y ∷ xs) (suc i) past = ap (λ ys. y ∷ ys) (take_all xs i (omega arith))

@@ -7,6 +7,8 @@ pub mod GroundLists
 pub mod GroundOuter
 pub mod GroundCells
 pub mod GroundFrames
+pub mod Arguments
+pub mod Indices
 pub mod Sequences
 pub mod Turning
 pub mod GroundCallables
@@ -15,3 +17,4 @@ pub mod Named
 pub mod FieldRules
 pub mod OperationRules
 pub mod LiveCalls
+pub mod Values

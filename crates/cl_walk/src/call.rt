@@ -1,18 +1,19 @@
 //! Arguments, results, and how statements leave off.
 
-ghost use Rattle.std.specs.Prelude.{◌≡◌, [], ◌∷◌, IfOk};
+ghost use Rattle.std.specs.Prelude.{◌≡◌, [], ◌∷◌, IfOk, MatchResult};
 ghost use Rattle.cl_walk.specs.Rules.{left_or};
 ghost use Rattle.cl_meaning.specs.Operators as operators;
 ghost use Rattle.cl_meaning.specs.Calls as calls;
 ghost use Rattle.cl_meaning.specs.Calls.{result_type};
 ghost use Rattle.cl_meaning.specs.Operations.{Does};
+ghost use Rattle.cl_meaning.specs.Variables.{declared_in};
 ghost use Rattle.cl_meaning.specs.Statements as meaning;
 ghost use Rattle.cl_walk.specs.Views.{exit_of, scope_in};
 ghost use Rattle.cl_walk.specs.Walks.{Point, Comes, same};
 
 use crate::literal::{field_type, single};
 use crate::stop::Stop;
-use cl_ast::{Function, TypeName};
+use cl_ast::{Function, Parameter, TypeName};
 use cl_state::{Locals, Variable, converted, zero_of};
 use cl_value::{FieldType, Items, Value};
 use std::alloc::Global;
@@ -43,6 +44,24 @@ impl Exit {
     }
 }
 
+// Puts a parameter with its value into the innermost scope.
+fn add_parameter<'a>(
+    alloc: Global,
+    locals: &mut Locals<'a>,
+    parameter: &'a Parameter,
+    value: Value,
+) -> Result<(), Stop>
+    ensures { MatchResult result (λ _. locals.new ≡ declared_in (record { name = parameter.now.name.bytes; of = parameter.now.type_name; values = value ∷ [] }) locals.old) (λ stop. stop ≡ Stop.NoMemory) }
+{
+    let values = single(alloc, value)?;
+    locals.declare(Variable {
+        name: parameter.name.bytes.as_slice(),
+        of: parameter.type_name,
+        values,
+    })?;
+    Ok(())
+}
+
 /// The parameters of a function with these arguments, as its outermost scope.
 pub fn parameters<'a>(
     alloc: Global,
@@ -57,12 +76,9 @@ pub fn parameters<'a>(
     let all = function.parameters.as_slice();
     for i in 0..all.len() {
         if i < values.len() {
-            let value = converted(all[i].type_name, values[i])?;
-            locals.declare(Variable {
-                name: all[i].name.bytes.as_slice(),
-                of: all[i].type_name,
-                values: single(alloc, value)?,
-            })?;
+            let parameter = &all[i];
+            let value = converted(parameter.type_name, values[i])?;
+            add_parameter(alloc, &mut locals, parameter, value)?;
         }
     }
     Ok(locals)
@@ -111,7 +127,10 @@ pub fn given_back(function: &Function, exit: Exit) -> Result<Value, Stop>
 {
     let of = type_given(function);
     match exit {
-        Exit::Returned(Some(value)) => Ok(converted(of, value)?),
-        _ => Ok(zero_of(of)),
+        Exit::Returned(given) => match given {
+            Some(value) => Ok(converted(of, value)?),
+            None => Ok(zero_of(of)),
+        },
+        Exit::WentOn | Exit::Broke | Exit::Continued => Ok(zero_of(of)),
     }
 }

@@ -54,7 +54,7 @@ impl<'a> Model for Program<'a> {
     ghost invariant = { λ p. (p.listing ≡ listing_of (in_items p.unit.now.items)) × (p.scope ≡ outer p.unit.now.items) × (p.cells ≡ capped (cells_of_globals p.unit.now.items)) × AreCallables (outer p.unit.now.items) 0 (functions_of p.unit.now.items) p.functions.items × ((name : Bor (List ℕ)) → get (λ a b. pointwise nat_eq a.now b.now) p.places name ≡ place_named name.now (functions_of p.unit.now.items)) };
 }
 
-ghost use Rattle.std.specs.Prelude.{ℕ, ◌≡◌, List, [], ◌∷◌, ◌++◌, nat_eq, OnOk, OnErr};
+ghost use Rattle.std.specs.Prelude.{ℕ, ◌≡◌, List, [], ◌∷◌, ◌++◌, nat_eq, OnOk};
 ghost use Rattle.std.specs.Borrow.{Bor};
 ghost use Rattle.std.specs.Cmp.Lexicographic.{pointwise};
 ghost use Rattle.indexmap.specs.IndexMap.{get};

@@ -1,5 +1,4 @@
-use Rattle.std.proofs.Common.{◌≡◌, ◌∙◌, ap, sym, refl, map, arith}
-use Rattle.cl_ast.specs.declared.statement.Block.{out-Block}
+use Rattle.std.proofs.Common.{◌∙◌, ap, sym, map, arith}
 use Rattle.cl_ast.specs.declared.statement.If.{out-If}
 use Rattle.cl_ast.specs.declared.statement.For.{out-For}
 use Rattle.cl_meaning.specs.Outer.{size_in, declarator_cells, total}

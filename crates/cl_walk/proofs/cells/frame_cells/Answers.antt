@@ -1,4 +1,4 @@
-use Rattle.std.proofs.Common.{◌≡◌, ◌∙◌, ◌<◌, ◌^◌, ap, sym, length, arith, rules}
+use Rattle.std.proofs.Common.{◌∙◌, ◌<◌, ◌^◌, ap, sym, length, arith}
 use Rattle.cl_meaning.specs.Outer.{size_in}
 use Rattle.cl_walk.specs.Numbers.{capped}
 use Rattle.cl_walk.specs.Cells.{cells_of_block}

@@ -4,4 +4,4 @@ use Rattle.cl_walk.specs.Around.{fixed_in}
 use Rattle.cl_walk.proofs.expression.text.Goals as goal
 
 pub returns-in-Some : goal.returns-in-Some
-returns-in-Some c = ap (λ n. Text n) (c.in-Some.ensures c.args.on.now.depth ∙ ap (fixed_in c.args.on.now).text c.as_slice.ensures)
+returns-in-Some c = ap Text (c.in-Some.ensures c.args.on.now.depth ∙ ap (fixed_in c.args.on.now).text c.as_slice.ensures)

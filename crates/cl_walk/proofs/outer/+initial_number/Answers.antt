@@ -1,6 +1,5 @@
-use Rattle.std.proofs.Common.{◌≡◌, ap, ◌∙◌, sym, w64, rules, ℤ, to_z, of_z}
+use Rattle.std.proofs.Common.{◌≡◌, ap, ◌∙◌, sym, w64, rules, to_z, of_z}
 use Rattle.cl_model.specs.Numbers.{number}
-use Rattle.cl_meaning.specs.Operators.{literal}
 use Rattle.cl_meaning.specs.Outer.{initial_number}
 use Rattle.cl_walk.proofs.GroundInitial.{initial_of_literal, initial_of_place, initial_of_negate, initial_of_other, negated, named_number}
 use Rattle.cl_walk.proofs.outer.+initial_number.Goals as goal

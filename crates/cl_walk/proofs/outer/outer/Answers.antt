@@ -1,4 +1,4 @@
-use Rattle.std.proofs.Common.{refl, ◌∙◌, ap, arith}
+use Rattle.std.proofs.Common.{ap, arith}
 use Rattle.cl_meaning.specs.Outer.{outer_from}
 use Rattle.cl_walk.proofs.GroundOuter.{items_lead_on, items_lead_to}
 use Rattle.cl_walk.proofs.outer.outer.Goals as goal

@@ -1,4 +1,4 @@
-use Rattle.std.proofs.Common.{◌≡◌, ◌∙◌, ◌<◌, ap, sym, subst, length, Some, None, arith}
+use Rattle.std.proofs.Common.{◌∙◌, ap, sym, subst, Some, arith}
 use Rattle.cl_ast.specs.declared.statement.Unit.{Unit}
 use Rattle.cl_meaning.specs.Outer.{outer, functions_of}
 use Rattle.cl_walk.specs.Numbers.{first_named}
