@@ -9,4 +9,5 @@ pub mod GroundCells
 pub mod GroundFrames
 pub mod Sequences
 pub mod Turning
+pub mod SentenceRules
 pub mod GroundCallables
