@@ -11,6 +11,7 @@ pub mod Arguments
 pub mod Indices
 pub mod Sequences
 pub mod Turning
+pub mod SentenceRules
 pub mod GroundCallables
 pub mod ExpressionRules
 pub mod Named

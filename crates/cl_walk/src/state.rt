@@ -36,7 +36,7 @@ impl<'a> Model for State<'a> {
 }
 
 impl<'a> State<'a> {
-    ghost use Rattle.std.specs.Prelude.{ℕ, ◌≡◌, [], length, Ok, OnOk};
+    ghost use Rattle.std.specs.Prelude.{ℕ, ◌≡◌, [], length, Ok, OnOk, IfErr};
     ghost use Rattle.cl_model.specs.Doing as doing;
     ghost use Rattle.cl_meaning.specs.Variables as plain;
     ghost use Rattle.cl_meaning.specs.Variables.{found, element, entered, left, back_in, called_with, declared};
@@ -181,6 +181,7 @@ impl<'a> State<'a> {
     pub fn enter(&mut self, alloc: Global) -> Result<(), Stop>
         ensures state { OnOk result (self.new.state ≡ record self.old.state { variables = entered self.old.state.variables }) }
         ensures output { OnOk result (self.new.output ≡ self.old.output) }
+        ensures memory { IfErr result (λ stop. stop ≡ Stop.NoMemory) }
     {
         self.locals.enter(alloc)?;
         Ok(())
@@ -198,6 +199,7 @@ impl<'a> State<'a> {
     pub fn declare(&mut self, variable: Variable<'a>) -> Result<(), Stop>
         ensures state { OnOk result (self.new.state ≡ record self.old.state { variables = declared (variable_of variable.entry) self.old.state.variables }) }
         ensures output { OnOk result (self.new.output ≡ self.old.output) }
+        ensures memory { IfErr result (λ stop. stop ≡ Stop.NoMemory) }
     {
         self.locals.declare(variable)?;
         Ok(())
