@@ -10,3 +10,4 @@ pub mod GroundFrames
 pub mod Sequences
 pub mod Turning
 pub mod GroundCallables
+pub mod Demanded
