@@ -11,3 +11,4 @@ pub mod Sequences
 pub mod Turning
 pub mod GroundCallables
 pub mod Demanded
+pub mod Processes
