@@ -19,3 +19,5 @@ pub mod FieldRules
 pub mod OperationRules
 pub mod LiveCalls
 pub mod Values
+pub mod Demanded
+pub mod Processes

@@ -14,6 +14,8 @@ mod public;
 mod state;
 mod statement;
 mod stop;
+#[cfg(test)]
+mod tests;
 mod world;
 
 pub use public::{Ending, Walked, walk};

@@ -1,7 +1,8 @@
 ghost use Rattle.std.specs.Prelude.{◌≡◌, map, IfOk};
 ghost use Rattle.cl_value.specs.Views.{plain_start};
 ghost use Rattle.cl_value.specs.LiveViews.{plain_part, plain_live};
-ghost use Rattle.cl_meaning.specs.Process.{main, part_does, parts_do, live, process, demands};
+ghost use Rattle.cl_meaning.specs.Process as meaning;
+ghost use Rattle.cl_meaning.specs.Process.{main, part_does, parts_do, process, demands};
 ghost use Rattle.cl_walk.specs.Walks.{point, Comes, same};
 ghost use Rattle.cl_walk.specs.Walked.{IsWalk};
 ghost use Rattle.cl_walk.specs.Endings.{outcome_of, IsEnding};
@@ -96,7 +97,7 @@ fn live_process<'a, W: World>(
     live: &Live,
 ) -> Result<Tuple, Stop>
     requires { on.now.calls ≡ 256 }
-    ensures { Comes (λ values. values.items) (live on.now.program.now.items on.now.depth (plain_live live.now)) (point state.old (W.said world.old)) result (point state.new (W.said world.new)) }
+    ensures { Comes (λ values. values.items) (meaning.live on.now.program.now.items on.now.depth (plain_live live.now)) (point state.old (W.said world.old)) result (point state.new (W.said world.new)) }
 {
     state.claim(on.program.cells())?;
     let values = parts(on, world, state, live.fields())?;
