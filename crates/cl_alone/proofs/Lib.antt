@@ -1,0 +1,4 @@
+pub mod Kept
+pub mod Demanded
+pub mod Runs
+pub mod Leavings
