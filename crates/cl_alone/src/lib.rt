@@ -13,3 +13,6 @@ mod space;
 mod stage;
 
 pub use running::run_alone;
+
+#[cfg(test)]
+mod tests;
