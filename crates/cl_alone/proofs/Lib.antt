@@ -1,3 +1,4 @@
+pub mod Hits
 pub mod Kept
 pub mod Demanded
 pub mod Runs
