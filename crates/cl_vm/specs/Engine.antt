@@ -1,0 +1,59 @@
+-- What an engine stands for: what its process does from here on. (This project.)
+use Rattle.std.specs.Prelude.{◌≡◌, ℕ, suc, List, length, Option, Some, None, ℤ, Ok, Err}
+use Rattle.cl_value.specs.declared.value.Value.{Value}
+use Rattle.cl_value.specs.declared.process.Trap.{Trap}
+use Rattle.cl_value.specs.Plain.{PlainReply}
+use Rattle.cl_model.specs.Doing.{Steps, Gives, Stops, State, Checked, ◌>>=◌}
+use Rattle.cl_code.specs.Plain.{PlainProgram}
+use Rattle.cl_code.specs.Machine.{Cells, Does, Stack, Ending, Way, On, To, machine}
+use Rattle.cl_code.specs.Process.{CodeDemand, code_demand_of}
+use Rattle.cl_vm.specs.Memory.{with_pushed}
+use Rattle.cl_vm.specs.declared.engine.Engine.{Engine}
+use Rattle.cl_vm.specs.declared.engine.Flow.{Flow}
+use Rattle.cl_vm.specs.declared.engine.Flow.TheVariants as flows
+
+abbrev pub state_of : Engine → State Cells
+state_of e = record { variables = record { globals = e.memory.globals; frame = e.memory.frame }; ticks = e.ticks; cells = e.cells; printed = length e.output.items }
+
+-- what is done with the result of the outermost function
+abbrev pub Behind : Type 0
+Behind = Ending → Does (Option (List Value))
+
+-- what is demanded from here on, after these replies
+abbrev pub onward : PlainProgram → Behind → Engine → List PlainReply → CodeDemand
+onward p behind e replies = code_demand_of ((machine p e.depth e.memory.frames e.place e.memory.stack >>= behind) (state_of e)) e.output.items replies
+
+-- ---- one instruction
+
+abbrev pub with_number : ℤ → Engine → Engine
+with_number n e = record e { memory = with_pushed n e.memory }
+
+-- a result was pushed, or trapped
+abbrev pub Gave : Checked ℤ → Engine → Flow → Engine → Type 0
+Gave (Ok n) old flow new = (flow ≡ flows.On) × (new ≡ with_number n old)
+Gave (Err t) old flow new = (flow ≡ flows.Stop t) × (new ≡ old)
+
+-- only its stack, its cells and its place may be others
+pub record IsNear (old new : Engine) : Type 0 where
+  pub frames : new.memory.frames ≡ old.memory.frames
+  pub output : new.output.items ≡ old.output.items
+  pub ticks : new.ticks ≡ old.ticks
+  pub depth : new.depth ≡ old.depth
+
+-- where it stands; the old one stands at the next address
+abbrev pub StandsBy : Way → Engine → Engine → Type 0
+StandsBy (On stack) old new = (new.place ≡ old.place) × (new.memory.stack ≡ stack)
+StandsBy (To place stack) old new = (new.place ≡ place) × (new.memory.stack ≡ stack)
+StandsBy _ old new = ⊥
+
+-- it did what is done with the stack, or trapped
+abbrev pub ActsAs : (Stack → Does Way) → Engine → Flow → Engine → Type 0
+ActsAs d old flows.On new = (way : Way) × (d old.memory.stack (state_of old) ≡ Gives (way, state_of new)) × StandsBy way old new × IsNear old new
+ActsAs d old (flows.Stop t) new = (d old.memory.stack (state_of old) ≡ Stops t) × IsNear old new
+ActsAs d old _ new = ⊥
+
+-- what is demanded is the same
+abbrev pub Led : PlainProgram → Engine → Flow → Engine → Type 0
+Led p old flows.On new = (behind : Behind) (replies : List PlainReply) → onward p behind old replies ≡ onward p behind new replies
+Led p old (flows.Stop t) new = (behind : Behind) (replies : List PlainReply) → onward p behind old replies ≡ code_demand_of (Stops t) new.output.items replies
+Led p old (flows.Over n) new = (behind : Behind) (replies : List PlainReply) → onward p behind old replies ≡ code_demand_of (behind (Some n) (state_of new)) new.output.items replies

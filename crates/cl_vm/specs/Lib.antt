@@ -1,0 +1,3 @@
+pub mod Memory
+pub mod MemoryViews
+pub mod Engine

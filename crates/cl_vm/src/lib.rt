@@ -1,0 +1,10 @@
+//! The machine: a process of a program that is resumed with one reply after another.
+#![tactic(auto)]
+
+mod arithmetic;
+mod engine;
+mod memory;
+mod numbers;
+
+pub use engine::{Engine, Flow};
+pub use memory::Memory;

@@ -1,0 +1,105 @@
+use std::marker::Model;
+
+/// What waits for the result of a function: where its own cells and numbers begin, and where it goes on.
+#[derive(Clone, Copy)]
+pub struct Waiting {
+    /// The address behind the call.
+    pub place: u32,
+    /// How many cells the function has that was called.
+    pub claimed: u32,
+    /// Where its cells begin.
+    pub base: usize,
+    /// Where its numbers begin.
+    pub floor: usize,
+}
+
+/// The cells and numbers of all active functions of a process, each kind one behind the other.
+#[derive(Drop)]
+pub struct Memory {
+    // The globals, and the frames from the outermost function on.
+    cells: Vec<i64>,
+    // The numbers on the stacks, from the outermost function on.
+    numbers: Vec<i64>,
+    waiting: Vec<Waiting>,
+    // How many globals there are.
+    globals: usize,
+    // Where the cells of the active function begin.
+    base: usize,
+    // Where its numbers begin.
+    floor: usize,
+}
+
+impl Model for Memory {
+    ghost use Rattle.cl_vm.specs.Memory.{Memory as Held};
+
+    ghost Value = { Held };
+
+    ghost use Rattle.cl_vm.specs.MemoryViews.{memory_of, IsLaidOut};
+
+    ghost view = { memory_of };
+
+    ghost invariant = { IsLaidOut };
+}
+
+impl Memory {
+    ghost use Rattle.std.specs.Prelude.{◌≡◌, ◌+◌, ◌-◌, ◌<◌, ◌≤◌, length, slice_get, Some};
+    ghost use Rattle.cl_vm.specs.Memory.{with_pushed, with_local, with_global, with_cleared};
+
+    /// Pushes a number, into room that was made before.
+    #[inline(always)]
+    pub fn push(&mut self, n: i64)
+        requires { 0 < self.old.number_room }
+        ensures { self.new ≡ with_pushed n self.old }
+    {
+        self.numbers.push_reserved(n);
+    }
+
+    /// The topmost number of the active function, which is dropped.
+    #[inline(always)]
+    pub fn pop(&mut self) -> i64
+        requires { 0 < length self.old.stack }
+        ensures number { self.old ≡ with_pushed result self.new }
+        ensures room { 0 < self.new.number_room }
+    {
+        match self.numbers.pop() {
+            Some(n) => n,
+            None => unreachable!(),
+        }
+    }
+
+    /// A cell of the active function.
+    #[inline(always)]
+    pub fn local(&self, k: usize) -> i64
+        requires { k < length self.now.frame }
+        ensures { slice_get self.now.frame k ≡ Some result }
+    {
+        self.cells[self.base + k]
+    }
+
+    /// A global cell.
+    #[inline(always)]
+    pub fn global(&self, k: usize) -> i64
+        requires { k < length self.now.globals }
+        ensures { slice_get self.now.globals k ≡ Some result }
+    {
+        self.cells[k]
+    }
+
+    /// Puts a number into a cell of the active function.
+    #[inline(always)]
+    pub fn set_local(&mut self, k: usize, n: i64)
+        requires { k < length self.old.frame }
+        ensures { self.new ≡ with_local k n self.old }
+    {
+        self.cells[self.base + k] = n;
+    }
+
+    /// Puts a number into a global cell.
+    #[inline(always)]
+    pub fn set_global(&mut self, k: usize, n: i64)
+        requires { k < length self.old.globals }
+        ensures { self.new ≡ with_global k n self.old }
+    {
+        self.cells[k] = n;
+    }
+}
