@@ -5,9 +5,9 @@ use Rattle.cl_value.specs.declared.process.Trap.{Trap}
 use Rattle.cl_value.specs.Plain.{PlainReply}
 use Rattle.cl_model.specs.Doing.{Steps, Gives, Stops, State, Checked, ◌>>=◌}
 use Rattle.cl_code.specs.Plain.{PlainProgram}
-use Rattle.cl_code.specs.Machine.{Cells, Does, Stack, Ending, Way, On, To, machine}
+use Rattle.cl_code.specs.Machine.{Cells, Does, Stack, Ending, Way, On, To, Where, Local, Global, machine}
 use Rattle.cl_code.specs.Process.{CodeDemand, code_demand_of}
-use Rattle.cl_vm.specs.Memory.{with_pushed}
+use Rattle.cl_vm.specs.Memory.{with_pushed, with_local, with_global}
 use Rattle.cl_vm.specs.declared.engine.Engine.{Engine}
 use Rattle.cl_vm.specs.declared.engine.Flow.{Flow}
 use Rattle.cl_vm.specs.declared.engine.Flow.TheVariants as flows
@@ -27,6 +27,15 @@ onward p behind e replies = code_demand_of ((machine p e.depth e.memory.frames e
 
 abbrev pub with_number : ℤ → Engine → Engine
 with_number n e = record e { memory = with_pushed n e.memory }
+
+abbrev pub with_cell : Where → ℕ → ℤ → Engine → Engine
+with_cell Local k n e = record e { memory = with_local k n e.memory }
+with_cell Global k n e = record e { memory = with_global k n e.memory }
+
+-- the cells of the frame, or the globals
+abbrev pub held_at : Where → Engine → List ℤ
+held_at Local e = e.memory.frame
+held_at Global e = e.memory.globals
 
 -- a result was pushed, or trapped
 abbrev pub Gave : Checked ℤ → Engine → Flow → Engine → Type 0

@@ -102,4 +102,30 @@ impl Memory {
     {
         self.cells[k] = n;
     }
+
+    /// Sets cells of the active function to 0, from this one on so many.
+    pub fn clear(&mut self, from: usize, count: usize)
+        requires { from + count ≤ length self.old.frame }
+        ensures { self.new ≡ with_cleared from count self.old }
+    {
+        clear_range(&mut self.cells, self.base + from, count);
+    }
+}
+
+ghost use Rattle.std.specs.Prelude.{◌≡◌, ◌+◌, ◌≤◌, length, replicate, pos, vec_len, vec_capacity};
+ghost use Rattle.cl_code.specs.Machine.{cleared};
+
+fn clear_range(cells: &mut Vec<i64>, from: usize, count: usize)
+    requires { from + count ≤ length cells.old.items }
+    ensures items { cells.new.items ≡ cleared from count cells.old.items }
+    ensures len { vec_len cells.new ≡ vec_len cells.old }
+    ensures capacity { vec_capacity cells.new ≡ vec_capacity cells.old }
+{
+    zero(&mut cells[from..from + count]);
+}
+
+fn zero(cells: &mut [i64])
+    ensures { cells.new ≡ replicate (length cells.old) (pos 0) }
+{
+    cells.fill(0);
 }
