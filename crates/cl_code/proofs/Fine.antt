@@ -1,6 +1,6 @@
 -- In a program that keeps the rules each jump goes forward or to a tick, so that `step` serves at each of its addresses.
-use Rattle.std.proofs.Common.{◌≡◌, ℕ, zero, suc, ◌<◌, Bool, true, false, List, length, Option, Some, None, refl, sym, ap, ◌∙◌, subst, arith, ⊎_elim}
-use Rattle.std.specs.Prelude.{◌&&◌, ◌||◌, nat_lt, slice_get}
+use Rattle.std.proofs.Common.{◌≡◌, ℕ, zero, suc, ◌<◌, Bool, true, List, length, Option, Some, None, refl, sym, ap, ◌∙◌, subst, arith, ⊎_elim}
+use Rattle.std.specs.Prelude.{nat_lt, slice_get}
 use Rattle.std.proofs.lemmas.Bool.{cases_lt, le-ltb}
 use Rattle.std.proofs.lemmas.Option.{slice_get_within}
 use Rattle.cl_model.specs.Doing.{◌>>=◌}
@@ -13,20 +13,7 @@ use Rattle.cl_code.specs.declared.instr.Instr.{Instr}
 use Rattle.cl_code.specs.declared.instr.Instr.TheVariants.{PushInt, PushLong, LoadLocal, LoadGlobal, StoreLocal, StoreGlobal, LoadLocalAt, LoadGlobalAt, StoreLocalAt, StoreGlobalAt, CheckIndex, Clear, AddInt, SubInt, MulInt, DivInt, RemInt, NegInt, AddLong, SubLong, MulLong, DivLong, RemLong, NegLong, Less, LessEqual, Greater, GreaterEqual, Equal, NotEqual, Not, Narrow, ToChar, Jump, JumpZero, Tick, Call, Return, Pop, Print, Perform}
 use Rattle.cl_code.proofs.Keeping.{Aims, IsFine}
 use Rattle.cl_code.proofs.Step.{follows, step}
-
--- ---- tests
-
-left : (x y : Bool) → (x && y) ≡ true → x ≡ true
-left true y h = refl
-left false y h = h
-
-right : (x y : Bool) → (x && y) ≡ true → y ≡ true
-right true y h = h
-right false y h = absurd cc
-
-other : (x y : Bool) → (x || y) ≡ true → x ≡ false → y ≡ true
-other true y h e = absurd cc
-other false y h e = h
+use Rattle.cl_code.proofs.Tests.{left, right, other}
 
 pub below : (n : ℕ) (test : ℕ → Bool) → all_below n test ≡ true → (k : ℕ) → k < n → test k ≡ true
 below zero test h k lt = absurd (omega (arith, lt))

@@ -1,7 +1,16 @@
 mod RuleRows
 mod Rows
 mod StartRows
+mod PositionRows
+pub mod Tests
 pub mod LawProofs
 pub mod Keeping
 pub mod Step
 pub mod Fine
+pub mod Holds
+pub mod Effects
+pub mod Requests
+pub mod Flow
+pub mod Safe
+pub mod Processes
+pub mod Heights

@@ -11,6 +11,8 @@ use Rattle.cl_code.specs.Rules.{is_tick}
 use Rattle.cl_code.specs.declared.instr.Instr.{Instr}
 use Rattle.cl_code.specs.declared.instr.Instr.TheVariants.{Tick}
 use Rattle.cl_code.specs.Machine.{Cells, Does, Stack, Way, On, To, Past, Over, Into, Lost, Ending, Next, Frame, Enters, Machine, Ticked, frame_of, set_frame, effect, follow, act, back, jump, entered_by, entered, run, leaving, ticked, machine}
+unfoldable pub use Rattle.cl_code.specs.Following.{ticks_on, enters, leaves}
+pub use Rattle.cl_code.specs.Following.{follows}
 use Rattle.cl_code.proofs.Keeping.{AimsBy, IsFine, Keeps, keeps}
 
 module _ (p : PlainProgram) (depth : ℕ) where
@@ -46,23 +48,7 @@ module _ (p : PlainProgram) (depth : ℕ) where
 
   -- ---- what follows an instruction
 
-  -- behind a tick
-  unfoldable pub ticks_on : List Frame → Next
-  ticks_on frames a stack = tick >> machine p depth frames a stack
-
-  -- a tick, and into a function
-  unfoldable pub enters : List Frame → Enters
-  enters frames next f ns stack = tick >> entered p depth frames next f ns stack (machine p depth)
-
-  -- a result, and back to the frame that waits
-  unfoldable pub leaves : List Frame → ℤ → Does Ending
-  leaves [] n = pure (Some n)
-  leaves (frame ∷ frames) n = do
-    release frame.claimed
-    set_frame frame.cells
-    machine p depth frames frame.place (n ∷ frame.stack)
-
-  leaving_is : (frames : List Frame) (n : ℤ) (s : State Cells) → leaving p depth (ticked p depth s.ticks) frames n s ≡ leaves frames n s
+  leaving_is : (frames : List Frame) (n : ℤ) (s : State Cells) → leaving p depth (ticked p depth s.ticks) frames n s ≡ leaves p depth frames n s
   unfolding leaving leaves machine ◌>>◌ ◌>>=◌ then_do release set_frame variables set_variables
   leaving_is [] n s = refl
   leaving_is (frame ∷ frames) n s = refl
@@ -72,7 +58,7 @@ module _ (p : PlainProgram) (depth : ℕ) where
   ticked_from frames a stack s zero = refl
   ticked_from frames a stack s (suc n) = refl
 
-  ticked_is : (frames : List Frame) (a : ℕ) (stack : Stack) (s : State Cells) → ticked p depth s.ticks (λ go. go frames a stack) s ≡ ticks_on frames a stack s
+  ticked_is : (frames : List Frame) (a : ℕ) (stack : Stack) (s : State Cells) → ticked p depth s.ticks (λ go. go frames a stack) s ≡ ticks_on p depth frames a stack s
   unfolding ticks_on ◌>>◌ tick
   ticked_is frames a stack s = ticked_from frames a stack s s.ticks
 
@@ -114,7 +100,7 @@ module _ (p : PlainProgram) (depth : ℕ) where
   enters_from frames next f ns stack s zero = refl
   enters_from frames next f ns stack s (suc n) = same_entered n (machine_at n) (machine p depth) (agrees n) frames next (slice_get p.functions f) ns stack (record s { ticks = n }) refl
 
-  enters_is : (frames : List Frame) (next f : ℕ) (ns : List ℤ) (stack : Stack) (s : State Cells) → ticked p depth s.ticks (entered p depth frames next f ns stack) s ≡ enters frames next f ns stack s
+  enters_is : (frames : List Frame) (next f : ℕ) (ns : List ℤ) (stack : Stack) (s : State Cells) → ticked p depth s.ticks (entered p depth frames next f ns stack) s ≡ enters p depth frames next f ns stack s
   unfolding enters ◌>>◌ tick
   enters_is frames next f ns stack s = enters_from frames next f ns stack s s.ticks
 
@@ -124,21 +110,17 @@ module _ (p : PlainProgram) (depth : ℕ) where
   abbrev follows_at : ℕ → List Frame → ℕ → Way → Does Ending
   follows_at n frames a = follow (jump p depth a (λ to rest. run p depth (ticked p depth n) frames (leaving p depth (ticked p depth n) frames) (length p.code) to rest) (λ to rest. ticked p depth n (λ go. go frames to rest))) (λ to rest. ticked p depth n (λ go. go frames to rest)) (λ next f ns rest. ticked p depth n (entered p depth frames next f ns rest)) (leaving p depth (ticked p depth n) frames) (suc a)
 
-  -- what follows, in terms of the machine
-  abbrev pub follows : List Frame → ℕ → Way → Does Ending
-  follows frames next = follow (machine p depth frames) (ticks_on frames) (enters frames) (leaves frames) next
-
   opened : (frames : List Frame) (a : ℕ) (i : Instr) → slice_get p.code a ≡ Some i → (stack : Stack) (s : State Cells) → machine p depth frames a stack s ≡ then_do (effect p depth i stack s) (follows_at s.ticks frames a)
   unfolding machine run act ◌>>=◌
   opened frames a i h stack s =
       ap (λ d. d s) (same_run (ticked p depth s.ticks) frames (leaving p depth (ticked p depth s.ticks) frames) (length p.code) (suc (length p.code)) a (omega arith) (omega arith) stack)
       ∙ ap (λ o. act p depth (jump p depth a (λ to rest. run p depth (ticked p depth s.ticks) frames (leaving p depth (ticked p depth s.ticks) frames) (length p.code) to rest) (λ to rest. ticked p depth s.ticks (λ go. go frames to rest))) (λ to rest. ticked p depth s.ticks (λ go. go frames to rest)) (λ next f ns rest. ticked p depth s.ticks (entered p depth frames next f ns rest)) (leaving p depth (ticked p depth s.ticks) frames) o a stack s) h
 
-  at_tick : (frames : List Frame) (a : ℕ) → slice_get p.code a ≡ Some Tick → (stack : Stack) (s : State Cells) → machine p depth frames a stack s ≡ ticks_on frames (suc a) stack s
+  at_tick : (frames : List Frame) (a : ℕ) → slice_get p.code a ≡ Some Tick → (stack : Stack) (s : State Cells) → machine p depth frames a stack s ≡ ticks_on p depth frames (suc a) stack s
   unfolding effect pure follow then_do
   at_tick frames a h stack s = opened frames a Tick h stack s ∙ ticked_is frames (suc a) stack s
 
-  led : (frames : List Frame) (a n : ℕ) (way : Way) (s : State Cells) → s.ticks ≡ n → AimsBy p.code a way → follows_at n frames a way s ≡ follows frames (suc a) way s
+  led : (frames : List Frame) (a n : ℕ) (way : Way) (s : State Cells) → s.ticks ≡ n → AimsBy p.code a way → follows_at n frames a way s ≡ follows p depth frames (suc a) way s
   unfolding follow machine back
   led frames a n (On stack) s e h =
       ap (λ d. d s) (ahead a (suc a) _ _ stack (omega arith))
@@ -157,15 +139,15 @@ module _ (p : PlainProgram) (depth : ℕ) where
   led frames a n (Into f ns stack) s e h = ap (λ m. ticked p depth m (entered p depth frames (suc a) f ns stack) s) (sym e) ∙ enters_is frames (suc a) f ns stack s
   led frames a n Lost s e h = refl
 
-  led_from : (frames : List Frame) (a n : ℕ) (steps : Steps (Way × State Cells)) → Keeps n (AimsBy p.code a) steps → then_do steps (follows_at n frames a) ≡ then_do steps (follows frames (suc a))
+  led_from : (frames : List Frame) (a n : ℕ) (steps : Steps (Way × State Cells)) → Keeps n (AimsBy p.code a) steps → then_do steps (follows_at n frames a) ≡ then_do steps (follows p depth frames (suc a))
   unfolding then_do
   led_from frames a n (Gives r) h = led frames a n r.0 r.1 h.0 h.1
   led_from frames a n (Stops t) h = refl
   led_from frames a n (Prints bytes rest) h = ap (λ steps. Prints bytes steps) (led_from frames a n rest h)
   led_from frames a n (Asks q rest) h = ap (λ go. Asks q go) (fun_ext (λ reply. led_from frames a n (rest reply) (h reply)))
 
-  pub step : (frames : List Frame) (a next : ℕ) → suc a ≡ next → (i : Instr) → slice_get p.code a ≡ Some i → IsFine p.code a i → (stack : Stack) → machine p depth frames a stack ≡ effect p depth i stack >>= follows frames next
+  pub step : (frames : List Frame) (a next : ℕ) → suc a ≡ next → (i : Instr) → slice_get p.code a ≡ Some i → IsFine p.code a i → (stack : Stack) → machine p depth frames a stack ≡ effect p depth i stack >>= follows p depth frames next
   unfolding ◌>>=◌
   step frames a next e i h fine stack =
       fun_ext (λ s. opened frames a i h stack s ∙ led_from frames a s.ticks (effect p depth i stack s) (keeps p.code a p depth i fine stack s))
-      ∙ ap (λ n. effect p depth i stack >>= follows frames n) e
+      ∙ ap (λ n. effect p depth i stack >>= follows p depth frames n) e

@@ -7,5 +7,8 @@ pub mod Valid
 pub mod Arithmetic
 pub mod Machine
 pub mod Process
+pub mod Following
+pub mod Positions
 pub mod Laws
 pub mod Starts
+pub mod Requests

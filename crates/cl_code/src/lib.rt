@@ -14,6 +14,8 @@ mod program;
 
 pub use function::Function;
 pub use instr::Instr;
-pub use laws::each_process_demands;
+pub use laws::{
+    each_height_is_met, each_instruction_leads_on, each_process_demands, each_process_is_right,
+};
 pub use parts::ProgramParts;
 pub use program::Program;
