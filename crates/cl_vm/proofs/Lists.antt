@@ -1,13 +1,13 @@
 -- What a write to the lists of a memory means for what it holds.
-use Rattle.std.proofs.Common.{◌≡◌, ℕ, ◌+◌, ◌-◌, ◌<◌, ◌≤◌, List, [], ◌∷◌, ◌++◌, length, take, drop, refl, sym, ap, ◌∙◌, arith, length-take}
+use Rattle.std.proofs.Common.{◌≡◌, ℕ, suc, ◌+◌, ◌-◌, ◌<◌, ◌≤◌, List, [], ◌∷◌, ◌++◌, length, take, drop, refl, sym, ap, ◌∙◌, arith, length-take, length-drop, Some, append_assoc}
 use Rattle.std.specs.Prelude.{ℤ, pos, slice_set, reverse, replicate, vec_len, vec_capacity}
 use Rattle.std.specs.Vec.{with_item}
-use Rattle.std.proofs.lemmas.List.{take-set-le, drop-set-add, drop-set-lt, take-take, take-append-le, drop-drop, drop-append-le, drop-take, length-take-le}
+use Rattle.std.proofs.lemmas.List.{take-append-drop, reverse-reverse, reverse-append, length-reverse, take-set-le, drop-set-add, drop-set-lt, take-take, take-append-le, drop-drop, drop-append-le, drop-take, length-take-le}
 use Rattle.std.specs.Global.{Vec}
-use Rattle.std.proofs.Math.Seq.{take-set-lt}
+use Rattle.std.proofs.Math.Seq.{take-set-lt, drop-append_seam, drop-length, take-length}
 use Rattle.cl_code.specs.Machine.{Frame, cleared}
-use Rattle.cl_vm.specs.Memory.{Memory, with_pushed, with_local, with_global, with_cleared}
-use Rattle.cl_vm.specs.MemoryViews.{frames_of, memory_of, Nested, IsLaidOut}
+use Rattle.cl_vm.specs.Memory.{Memory, with_pushed, with_local, with_global, with_cleared, with_left, with_entered}
+use Rattle.cl_vm.specs.MemoryViews.{frames_of, memory_of, Nested, IsLaidOut, Left}
 use Rattle.cl_vm.specs.declared.memory.Waiting.{Waiting}
 use Rattle.cl_vm.specs.declared.memory.Memory.TheInside.{Inside}
 
@@ -68,3 +68,148 @@ cleared_is m v from count laid e len capacity h =
     ∙ ap (λ (xs : List ℤ). with_cells m (take m.globals cells) xs (take m.base v.items) (vec_capacity v - vec_len v)) c
     ∙ ap (λ (xs : List ℤ). with_cells m (take m.globals cells) (cleared from count (drop m.base cells)) xs (vec_capacity v - vec_len v)) b
     ∙ ap (λ (n : ℕ). with_cells m (take m.globals cells) (cleared from count (drop m.base cells)) (take m.base cells) n) (ap (λ (n : ℕ). n - vec_len v) capacity ∙ ap (λ (n : ℕ). vec_capacity m.cells - n) len)
+
+-- ---- frames that wait
+
+frames_count : (ws : List Waiting) (cells numbers : List ℤ) → length (frames_of ws cells numbers) ≡ length ws
+frames_count [] cells numbers = refl
+frames_count (w ∷ ws) cells numbers = ap suc (frames_count ws (take w.base cells) (take w.floor numbers))
+
+pub depth_is : (m : Inside) → vec_len m.waiting ≡ length (memory_of m).frames
+depth_is m = sym (frames_count (reverse m.waiting.items) (take m.base m.cells.items) (take m.floor m.numbers.items) ∙ length-reverse m.waiting.items ∙ sym m.waiting.ok.0)
+
+pub same_memory : (a b : Memory) → a.globals ≡ b.globals → a.frame ≡ b.frame → a.stack ≡ b.stack → a.frames ≡ b.frames → a.cell_room ≡ b.cell_room → a.number_room ≡ b.number_room → a.frame_room ≡ b.frame_room → a ≡ b
+same_memory a b g f s fs c n r =
+    ap (λ (x : List ℤ). record a { globals = x }) g
+    ∙ ap (λ (x : List ℤ). record a { globals = b.globals; frame = x }) f
+    ∙ ap (λ (x : List ℤ). record a { globals = b.globals; frame = b.frame; stack = x }) s
+    ∙ ap (λ (x : List Frame). record a { globals = b.globals; frame = b.frame; stack = b.stack; frames = x }) fs
+    ∙ ap (λ (x : ℕ). record a { globals = b.globals; frame = b.frame; stack = b.stack; frames = b.frames; cell_room = x }) c
+    ∙ ap (λ (x : ℕ). record a { globals = b.globals; frame = b.frame; stack = b.stack; frames = b.frames; cell_room = b.cell_room; number_room = x }) n
+    ∙ ap (λ (x : ℕ). record b { frame_room = x }) r
+
+-- ---- a function is left
+
+module _ (m : Inside) (w : Waiting) (waiting : Vec Waiting) (cells numbers : Vec ℤ) where
+  abbrev pub after_leave : Inside
+  after_leave = record { cells = cells; numbers = numbers; waiting = waiting; globals = m.globals; base = w.base; floor = w.floor }
+
+  abbrev cells_below : List ℤ
+  cells_below = take m.base m.cells.items
+
+  abbrev numbers_below : List ℤ
+  numbers_below = take m.floor m.numbers.items
+
+  abbrev frame_left : Frame
+  frame_left = record { place = w.place; stack = reverse (drop w.floor numbers_below); cells = drop w.base cells_below; claimed = w.claimed }
+
+  abbrev frames_left : List Frame
+  frames_left = frames_of (reverse waiting.items) (take w.base cells_below) (take w.floor numbers_below)
+
+  pub left_is : IsLaidOut m → m.waiting.items ≡ waiting.items ++ w ∷ [] → vec_len waiting + 1 ≡ vec_len m.waiting → vec_capacity waiting ≡ vec_capacity m.waiting →
+      cells.items ≡ cells_below → vec_len cells + (vec_len m.cells - m.base) ≡ vec_len m.cells → vec_capacity cells ≡ vec_capacity m.cells →
+      numbers.items ≡ numbers_below → vec_len numbers + (vec_len m.numbers - m.floor) ≡ vec_len m.numbers → vec_capacity numbers ≡ vec_capacity m.numbers →
+      Left (memory_of m) (Some w) (memory_of after_leave)
+  left_is laid w_is w_len w_cap c_is c_len c_cap n_is n_len n_cap =
+      let last : reverse m.waiting.items ≡ w ∷ reverse waiting.items = ap (λ (ws : List Waiting). reverse ws) w_is ∙ reverse-append waiting.items (w ∷ []) in
+      let c_long : length (drop m.base m.cells.items) ≡ length m.cells.items - m.base = length-drop m.base m.cells.items in
+      let n_long : length (reverse (drop m.floor m.numbers.items)) ≡ length m.numbers.items - m.floor = length-reverse (drop m.floor m.numbers.items) ∙ length-drop m.floor m.numbers.items in
+      let c_ok : vec_len m.cells ≡ length m.cells.items = m.cells.ok.0 in
+      let n_ok : vec_len m.numbers ≡ length m.numbers.items = m.numbers.ok.0 in
+      let c_fits : vec_len m.cells ≤ vec_capacity m.cells = m.cells.ok.1 in
+      let n_fits : vec_len m.numbers ≤ vec_capacity m.numbers = m.numbers.ok.1 in
+      let w_fits : vec_len m.waiting ≤ vec_capacity m.waiting = m.waiting.ok.1 in (
+        frame_left,
+        frames_left,
+        ap (λ (ws : List Waiting). frames_of ws cells_below numbers_below) last,
+        refl,
+        refl,
+        same_memory (memory_of after_leave) (with_left frame_left frames_left (memory_of m))
+            (ap (λ (xs : List ℤ). take m.globals xs) c_is ∙ take-take m.globals m.base m.cells.items laid.globals)
+            (ap (λ (xs : List ℤ). drop w.base xs) c_is)
+            (ap (λ (xs : List ℤ). reverse (drop w.floor xs)) n_is)
+            (ap (λ (xs : List ℤ). frames_of (reverse waiting.items) (take w.base xs) (take w.floor numbers.items)) c_is ∙ ap (λ (xs : List ℤ). frames_of (reverse waiting.items) (take w.base cells_below) (take w.floor xs)) n_is)
+            (omega (arith, c_len, c_cap, c_long, c_ok, c_fits, laid.base))
+            (omega (arith, n_len, n_cap, n_long, n_ok, n_fits, laid.floor))
+            (omega (arith, w_len, w_cap, w_fits)),
+      )
+
+-- ---- a function is entered
+
+pub taken_reverse : (xs : List ℤ) (j k : ℕ) → j + k ≡ length xs → take k (reverse xs) ≡ reverse (drop j xs)
+taken_reverse xs j k e =
+    let split : reverse xs ≡ reverse (drop j xs) ++ reverse (take j xs) = ap (λ (ys : List ℤ). reverse ys) (sym (take-append-drop j xs)) ∙ reverse-append (take j xs) (drop j xs) in
+    let long : length (reverse (drop j xs)) ≡ k = length-reverse (drop j xs) ∙ length-drop j xs ∙ omega (arith, e) in
+    ap (λ (ys : List ℤ). take k ys) split
+    ∙ take-append-le k (reverse (drop j xs)) (reverse (take j xs)) (omega (arith, long))
+    ∙ ap (λ (n : ℕ). take n (reverse (drop j xs))) (sym long) ∙ take-length (reverse (drop j xs))
+
+pub dropped_reverse : (xs : List ℤ) (j k : ℕ) → j + k ≡ length xs → drop k (reverse xs) ≡ reverse (take j xs)
+dropped_reverse xs j k e =
+    let split : reverse xs ≡ reverse (drop j xs) ++ reverse (take j xs) = ap (λ (ys : List ℤ). reverse ys) (sym (take-append-drop j xs)) ∙ reverse-append (take j xs) (drop j xs) in
+    let long : length (reverse (drop j xs)) ≡ k = length-reverse (drop j xs) ∙ length-drop j xs ∙ omega (arith, e) in
+    ap (λ (ys : List ℤ). drop k ys) split
+    ∙ ap (λ (n : ℕ). drop n (reverse (drop j xs) ++ reverse (take j xs))) (sym long)
+    ∙ drop-append_seam (reverse (drop j xs)) (reverse (take j xs))
+
+none_left : (xs : List ℤ) (n : ℕ) → n ≤ length xs → drop n (take n xs) ≡ []
+none_left xs n h = ap (λ (k : ℕ). drop k (take n xs)) (sym (length-take-le n xs h)) ∙ drop-length (take n xs)
+
+module _ (m : Inside) (place claimed count size : ℕ) (waiting : Vec Waiting) (cells numbers : Vec ℤ) where
+  abbrev first : ℕ
+  first = vec_len m.numbers - count
+
+  abbrev waiter : Waiting
+  waiter = record { place = place; claimed = claimed; base = m.base; floor = m.floor }
+
+  abbrev pub after_enter : Inside
+  after_enter = record { cells = cells; numbers = numbers; waiting = waiting; globals = m.globals; base = vec_len m.cells; floor = first }
+
+  abbrev mine : List ℤ
+  mine = drop m.floor m.numbers.items
+
+  abbrev arguments : List ℤ
+  arguments = drop first m.numbers.items
+
+  abbrev zeros_behind : List ℤ
+  zeros_behind = replicate (size - count) (pos 0)
+
+  pub entered_is : IsLaidOut m → count ≤ length (memory_of m).stack → count ≤ size → size ≤ (memory_of m).cell_room → 0 < (memory_of m).frame_room →
+      waiting.items ≡ m.waiting.items ++ waiter ∷ [] → vec_len waiting ≡ vec_len m.waiting + 1 → vec_capacity waiting ≡ vec_capacity m.waiting →
+      cells.items ≡ (m.cells.items ++ arguments) ++ zeros_behind → vec_len cells ≡ vec_len m.cells + length arguments + (size - count) → vec_capacity cells ≡ vec_capacity m.cells →
+      numbers.items ≡ take first m.numbers.items → vec_len numbers + (vec_len m.numbers - first) ≡ vec_len m.numbers → vec_capacity numbers ≡ vec_capacity m.numbers →
+      memory_of after_enter ≡ with_entered place claimed count size (memory_of m)
+  entered_is laid enough smaller roomy room w_is w_len w_cap c_is c_len c_cap n_is n_len n_cap =
+      let c_ok : vec_len m.cells ≡ length m.cells.items = m.cells.ok.0 in
+      let n_ok : vec_len m.numbers ≡ length m.numbers.items = m.numbers.ok.0 in
+      let c_fits : vec_len m.cells ≤ vec_capacity m.cells = m.cells.ok.1 in
+      let n_fits : vec_len m.numbers ≤ vec_capacity m.numbers = m.numbers.ok.1 in
+      let w_fits : vec_len m.waiting ≤ vec_capacity m.waiting = m.waiting.ok.1 in
+      let mine_long : length mine ≡ length m.numbers.items - m.floor = length-drop m.floor m.numbers.items in
+      let stack_long : length (memory_of m).stack ≡ length mine = length-reverse mine in
+      let args_long : length arguments ≡ length m.numbers.items - first = length-drop first m.numbers.items in
+      let j : ℕ = length mine - count in
+      let parts : j + count ≡ length mine = omega (arith, enough, stack_long) in
+      let at_first : m.floor + j ≡ first = omega (arith, enough, stack_long, mine_long, n_ok, laid.floor) in
+      let args : reverse (take count (reverse mine)) ≡ arguments =
+      ap (λ (xs : List ℤ). reverse xs) (taken_reverse mine j count parts) ∙ reverse-reverse (drop j mine) ∙ drop-drop j m.floor m.numbers.items ∙ ap (λ (n : ℕ). drop n m.numbers.items) at_first in
+      let kept : drop count (reverse mine) ≡ reverse (drop m.floor (take first m.numbers.items)) =
+      dropped_reverse mine j count parts ∙ ap (λ (xs : List ℤ). reverse xs) (sym (drop-take m.floor j m.numbers.items) ∙ ap (λ (n : ℕ). drop m.floor (take n m.numbers.items)) at_first) in
+      let all : cells.items ≡ m.cells.items ++ (arguments ++ zeros_behind) = c_is ∙ append_assoc m.cells.items arguments zeros_behind in
+      let front : take (vec_len m.cells) cells.items ≡ m.cells.items =
+      ap (λ (xs : List ℤ). take (vec_len m.cells) xs) all ∙ take-append-le (vec_len m.cells) m.cells.items (arguments ++ zeros_behind) (omega (arith, c_ok)) ∙ ap (λ (n : ℕ). take n m.cells.items) c_ok ∙ take-length m.cells.items in
+      let last : reverse waiting.items ≡ waiter ∷ reverse m.waiting.items = ap (λ (ws : List Waiting). reverse ws) w_is ∙ reverse-append m.waiting.items (waiter ∷ []) in
+      let below : take m.floor (take first m.numbers.items) ≡ take m.floor m.numbers.items = take-take m.floor first m.numbers.items (omega (arith, at_first)) in
+      same_memory (memory_of after_enter) (with_entered place claimed count size (memory_of m))
+      (ap (λ (xs : List ℤ). take m.globals xs) all ∙ take-append-le m.globals m.cells.items (arguments ++ zeros_behind) (omega (arith, laid.globals, laid.base)))
+      (ap (λ (xs : List ℤ). drop (vec_len m.cells) xs) all ∙ ap (λ (n : ℕ). drop n (m.cells.items ++ (arguments ++ zeros_behind))) c_ok ∙ drop-append_seam m.cells.items (arguments ++ zeros_behind) ∙ ap (λ (xs : List ℤ). xs ++ zeros_behind) (sym args))
+      (ap (λ (xs : List ℤ). reverse (drop first xs)) n_is ∙ ap (λ (xs : List ℤ). reverse xs) (none_left m.numbers.items first (omega (arith, n_ok))))
+      (ap (λ (ws : List Waiting). frames_of ws (take (vec_len m.cells) cells.items) (take first numbers.items)) last
+      ∙ ap (λ (xs : List ℤ). frames_of (waiter ∷ reverse m.waiting.items) xs (take first numbers.items)) front
+      ∙ ap (λ (xs : List ℤ). frames_of (waiter ∷ reverse m.waiting.items) m.cells.items (take first xs)) n_is
+      ∙ ap (λ (xs : List ℤ). frames_of (waiter ∷ reverse m.waiting.items) m.cells.items xs) (take-take first first m.numbers.items (omega arith))
+      ∙ ap (λ (xs : List ℤ). record { place = place; stack = reverse (drop m.floor (take first m.numbers.items)); cells = drop m.base m.cells.items; claimed = claimed } ∷ frames_of (reverse m.waiting.items) (take m.base m.cells.items) xs) below
+      ∙ ap (λ (xs : List ℤ). record { place = place; stack = xs; cells = drop m.base m.cells.items; claimed = claimed } ∷ (memory_of m).frames) (sym kept))
+      (omega (arith, c_len, c_cap, args_long, n_ok, c_fits, smaller, roomy, enough, stack_long, mine_long))
+      (omega (arith, n_len, n_cap, n_fits, n_ok, enough, stack_long, mine_long))
+      (omega (arith, w_len, w_cap, w_fits))

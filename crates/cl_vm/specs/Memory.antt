@@ -25,3 +25,29 @@ with_global k n m = record m { globals = slice_set m.globals k n }
 
 abbrev pub with_cleared : ℕ → ℕ → Memory → Memory
 with_cleared base count m = record m { frame = cleared base count m.frame }
+
+-- a function is entered with so many arguments, from the stack, and has so many cells
+abbrev pub with_entered : ℕ → ℕ → ℕ → ℕ → Memory → Memory
+with_entered place claimed count size m =
+    record {
+      globals = m.globals;
+      frame = reverse (take count m.stack) ++ replicate (size - count) (pos 0);
+      stack = [];
+      frames = record { place = place; stack = drop count m.stack; cells = m.frame; claimed = claimed } ∷ m.frames;
+      cell_room = m.cell_room - size;
+      number_room = m.number_room + count;
+      frame_room = m.frame_room - 1;
+    }
+
+-- the function is left, whose numbers and cells are dropped, and this frame is active again
+abbrev pub with_left : Frame → List Frame → Memory → Memory
+with_left frame frames m =
+    record {
+      globals = m.globals;
+      frame = frame.cells;
+      stack = frame.stack;
+      frames = frames;
+      cell_room = m.cell_room + length m.frame;
+      number_room = m.number_room + length m.stack;
+      frame_room = m.frame_room + 1;
+    }

@@ -1,7 +1,7 @@
 -- From the lists in which a memory keeps everything one behind the other to what it holds. (This project.)
-use Rattle.std.specs.Prelude.{ℕ, ◌-◌, ◌≤◌, List, [], ◌∷◌, take, drop, reverse, length, ℤ, vec_len, vec_capacity}
+use Rattle.std.specs.Prelude.{◌≡◌, Option, Some, None, ℕ, ◌-◌, ◌≤◌, List, [], ◌∷◌, take, drop, reverse, length, ℤ, vec_len, vec_capacity}
 use Rattle.cl_code.specs.Machine.{Frame}
-use Rattle.cl_vm.specs.Memory.{Memory}
+use Rattle.cl_vm.specs.Memory.{Memory, with_left}
 use Rattle.cl_vm.specs.declared.memory.Waiting.{Waiting}
 use Rattle.cl_vm.specs.declared.memory.Memory.TheInside.{Inside}
 
@@ -32,3 +32,8 @@ pub record IsLaidOut (m : Inside) : Type 0 where
   pub base : m.base ≤ length m.cells.items
   pub floor : m.floor ≤ length m.numbers.items
   pub nested : Nested m.globals (reverse m.waiting.items) m.base m.floor
+
+-- whether the function was left: not the outermost one
+abbrev pub Left : Memory → Option Waiting → Memory → Type 0
+Left old None new = (old.frames ≡ []) × (new ≡ old)
+Left old (Some w) new = (frame : Frame) × (frames : List Frame) × (old.frames ≡ frame ∷ frames) × (w.place ≡ frame.place) × (w.claimed ≡ frame.claimed) × (new ≡ with_left frame frames old)

@@ -43,7 +43,8 @@ impl Model for Memory {
 
 impl Memory {
     ghost use Rattle.std.specs.Prelude.{◌≡◌, ◌+◌, ◌-◌, ◌<◌, ◌≤◌, length, slice_get, Some};
-    ghost use Rattle.cl_vm.specs.Memory.{with_pushed, with_local, with_global, with_cleared};
+    ghost use Rattle.cl_vm.specs.Memory.{with_pushed, with_local, with_global, with_cleared, with_entered};
+    ghost use Rattle.cl_vm.specs.MemoryViews.{Left};
 
     /// Pushes a number, into room that was made before.
     #[inline(always)]
@@ -109,6 +110,79 @@ impl Memory {
         ensures { self.new ≡ with_cleared from count self.old }
     {
         clear_range(&mut self.cells, self.base + from, count);
+    }
+
+    /// How many functions wait.
+    #[inline(always)]
+    pub fn depth(&self) -> usize
+        ensures { result ≡ length self.now.frames }
+    {
+        self.waiting.len()
+    }
+
+    /// Enters a function that has so many cells: its arguments are the topmost numbers, which are dropped. The active
+    /// function waits, and goes on at the place. All that was made room for before.
+    pub fn enter(&mut self, place: u32, claimed: u32, count: usize, size: usize)
+        requires arguments { count ≤ length self.old.stack }
+        requires size { count ≤ size }
+        requires cells { size ≤ self.old.cell_room }
+        requires frames { 0 < self.old.frame_room }
+        ensures { self.new ≡ with_entered place claimed count size self.old }
+    {
+        let start = self.cells.len();
+        let first = self.numbers.len() - count;
+        append(&mut self.cells, &self.numbers[first..]);
+        append_zeros(&mut self.cells, size - count);
+        self.numbers.truncate(first);
+        self.waiting.push_reserved(Waiting {
+            place,
+            claimed,
+            base: self.base,
+            floor: self.floor,
+        });
+        self.base = start;
+        self.floor = first;
+    }
+
+    /// Leaves the active function, whose numbers and cells are dropped. The one that waits is active again.
+    #[inline(always)]
+    pub fn leave(&mut self) -> Option<Waiting>
+        ensures { Left self.old result self.new }
+    {
+        match self.waiting.pop() {
+            None => None,
+            Some(waiting) => {
+                self.cells.truncate(self.base);
+                self.numbers.truncate(self.floor);
+                self.base = waiting.base;
+                self.floor = waiting.floor;
+                Some(waiting)
+            }
+        }
+    }
+}
+
+ghost use Rattle.std.specs.Prelude.{◌++◌};
+
+fn append(cells: &mut Vec<i64>, numbers: &[i64])
+    requires { vec_len cells.old + length numbers.now ≤ vec_capacity cells.old }
+    ensures items { cells.new.items ≡ cells.old.items ++ numbers.now }
+    ensures len { vec_len cells.new ≡ vec_len cells.old + length numbers.now }
+    ensures capacity { vec_capacity cells.new ≡ vec_capacity cells.old }
+{
+    for n in numbers {
+        cells.push_reserved(*n);
+    }
+}
+
+fn append_zeros(cells: &mut Vec<i64>, count: usize)
+    requires { vec_len cells.old + count ≤ vec_capacity cells.old }
+    ensures items { cells.new.items ≡ cells.old.items ++ replicate count (pos 0) }
+    ensures len { vec_len cells.new ≡ vec_len cells.old + count }
+    ensures capacity { vec_capacity cells.new ≡ vec_capacity cells.old }
+{
+    for _ in 0..count {
+        cells.push_reserved(0);
     }
 }
 
