@@ -1,5 +1,5 @@
 -- What a write to the lists of a memory means for what it holds.
-use Rattle.std.proofs.Common.{◌≡◌, ℕ, suc, ◌+◌, ◌-◌, ◌<◌, ◌≤◌, List, [], ◌∷◌, ◌++◌, length, take, drop, refl, sym, ap, ◌∙◌, arith, length-take, length-drop, Some, append_assoc}
+use Rattle.std.proofs.Common.{◌≡◌, ℕ, suc, ◌+◌, ◌-◌, ◌<◌, ◌≤◌, List, [], ◌∷◌, ◌++◌, length, take, drop, refl, sym, ap, ◌∙◌, arith, length-take, length-drop, subst, Some, append_assoc}
 use Rattle.std.specs.Prelude.{ℤ, pos, slice_set, reverse, replicate, vec_len, vec_capacity}
 use Rattle.std.specs.Vec.{with_item}
 use Rattle.std.proofs.lemmas.List.{take-append-drop, reverse-reverse, reverse-append, length-reverse, take-set-le, drop-set-add, drop-set-lt, take-take, take-append-le, drop-drop, drop-append-le, drop-take, length-take-le}
@@ -78,14 +78,14 @@ frames_count (w ∷ ws) cells numbers = ap suc (frames_count ws (take w.base cel
 pub depth_is : (m : Inside) → vec_len m.waiting ≡ length (memory_of m).frames
 depth_is m = sym (frames_count (reverse m.waiting.items) (take m.base m.cells.items) (take m.floor m.numbers.items) ∙ length-reverse m.waiting.items ∙ sym m.waiting.ok.0)
 
-pub same_memory : (a b : Memory) → a.globals ≡ b.globals → a.frame ≡ b.frame → a.stack ≡ b.stack → a.frames ≡ b.frames → a.cell_room ≡ b.cell_room → a.number_room ≡ b.number_room → a.frame_room ≡ b.frame_room → a ≡ b
-same_memory a b g f s fs c n r =
+pub same_memory : (a b : Memory) → a.globals ≡ b.globals → a.frame ≡ b.frame → a.stack ≡ b.stack → a.frames ≡ b.frames → a.space ≡ b.space → a.cell_room ≡ b.cell_room → a.frame_room ≡ b.frame_room → a ≡ b
+same_memory a b g f s fs n c r =
     ap (λ (x : List ℤ). record a { globals = x }) g
     ∙ ap (λ (x : List ℤ). record a { globals = b.globals; frame = x }) f
     ∙ ap (λ (x : List ℤ). record a { globals = b.globals; frame = b.frame; stack = x }) s
     ∙ ap (λ (x : List Frame). record a { globals = b.globals; frame = b.frame; stack = b.stack; frames = x }) fs
-    ∙ ap (λ (x : ℕ). record a { globals = b.globals; frame = b.frame; stack = b.stack; frames = b.frames; cell_room = x }) c
-    ∙ ap (λ (x : ℕ). record a { globals = b.globals; frame = b.frame; stack = b.stack; frames = b.frames; cell_room = b.cell_room; number_room = x }) n
+    ∙ ap (λ (x : ℕ). record a { globals = b.globals; frame = b.frame; stack = b.stack; frames = b.frames; space = x }) n
+    ∙ ap (λ (x : ℕ). record a { globals = b.globals; frame = b.frame; stack = b.stack; frames = b.frames; space = b.space; cell_room = x }) c
     ∙ ap (λ (x : ℕ). record b { frame_room = x }) r
 
 -- ---- a function is left
@@ -118,7 +118,11 @@ module _ (m : Inside) (w : Waiting) (waiting : Vec Waiting) (cells numbers : Vec
       let n_ok : vec_len m.numbers ≡ length m.numbers.items = m.numbers.ok.0 in
       let c_fits : vec_len m.cells ≤ vec_capacity m.cells = m.cells.ok.1 in
       let n_fits : vec_len m.numbers ≤ vec_capacity m.numbers = m.numbers.ok.1 in
-      let w_fits : vec_len m.waiting ≤ vec_capacity m.waiting = m.waiting.ok.1 in (
+      let w_fits : vec_len m.waiting ≤ vec_capacity m.waiting = m.waiting.ok.1 in
+      let below : Nested m.globals (w ∷ reverse waiting.items) m.base m.floor = subst (λ (ws : List Waiting). Nested m.globals ws m.base m.floor) last laid.nested in
+      let laid_w : w.floor ≤ m.floor = below.2 in
+      let stack_long : length (reverse (drop w.floor numbers_below)) ≡ m.floor - w.floor = length-reverse (drop w.floor numbers_below) ∙ length-drop w.floor numbers_below ∙ ap (λ (n : ℕ). n - w.floor) (length-take-le m.floor m.numbers.items laid.floor) in
+      let space_is : vec_capacity numbers - w.floor ≡ (vec_capacity m.numbers - m.floor) + length (reverse (drop w.floor numbers_below)) = omega (arith, n_cap, stack_long, n_fits, n_ok, laid.floor, laid_w) in (
         frame_left,
         frames_left,
         ap (λ (ws : List Waiting). frames_of ws cells_below numbers_below) last,
@@ -129,8 +133,8 @@ module _ (m : Inside) (w : Waiting) (waiting : Vec Waiting) (cells numbers : Vec
             (ap (λ (xs : List ℤ). drop w.base xs) c_is)
             (ap (λ (xs : List ℤ). reverse (drop w.floor xs)) n_is)
             (ap (λ (xs : List ℤ). frames_of (reverse waiting.items) (take w.base xs) (take w.floor numbers.items)) c_is ∙ ap (λ (xs : List ℤ). frames_of (reverse waiting.items) (take w.base cells_below) (take w.floor xs)) n_is)
+            space_is
             (omega (arith, c_len, c_cap, c_long, c_ok, c_fits, laid.base))
-            (omega (arith, n_len, n_cap, n_long, n_ok, n_fits, laid.floor))
             (omega (arith, w_len, w_cap, w_fits)),
       )
 
@@ -210,6 +214,6 @@ module _ (m : Inside) (place claimed count size : ℕ) (waiting : Vec Waiting) (
       ∙ ap (λ (xs : List ℤ). frames_of (waiter ∷ reverse m.waiting.items) m.cells.items xs) (take-take first first m.numbers.items (omega arith))
       ∙ ap (λ (xs : List ℤ). record { place = place; stack = reverse (drop m.floor (take first m.numbers.items)); cells = drop m.base m.cells.items; claimed = claimed } ∷ frames_of (reverse m.waiting.items) (take m.base m.cells.items) xs) below
       ∙ ap (λ (xs : List ℤ). record { place = place; stack = xs; cells = drop m.base m.cells.items; claimed = claimed } ∷ (memory_of m).frames) (sym kept))
+      (omega (arith, n_cap, n_fits, n_ok, enough, stack_long, mine_long, laid.floor))
       (omega (arith, c_len, c_cap, args_long, n_ok, c_fits, smaller, roomy, enough, stack_long, mine_long))
-      (omega (arith, n_len, n_cap, n_fits, n_ok, enough, stack_long, mine_long))
       (omega (arith, w_len, w_cap, w_fits))

@@ -48,6 +48,8 @@ pub record IsNear (old new : Engine) : Type 0 where
   pub output : new.output.items ≡ old.output.items
   pub ticks : new.ticks ≡ old.ticks
   pub depth : new.depth ≡ old.depth
+  pub cells : new.cells ≡ old.cells
+  pub sizes : (new.memory.space ≡ old.memory.space) × (new.memory.cell_room ≡ old.memory.cell_room) × (new.memory.frame_room ≡ old.memory.frame_room) × (length new.memory.frame ≡ length old.memory.frame)
 
 -- where it stands; the old one stands at the next address
 abbrev pub StandsBy : Way → Engine → Engine → Type 0

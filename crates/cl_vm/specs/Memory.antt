@@ -9,13 +9,14 @@ pub record Memory : Type 0 where
   pub stack : List ℤ
   -- the function that was active last waits in the first of them
   pub frames : List Frame
-  -- for how many more cells, numbers and frames there is room
+  -- how many numbers the active function may have on its stack
+  pub space : ℕ
+  -- for how many more cells and frames there is room
   pub cell_room : ℕ
-  pub number_room : ℕ
   pub frame_room : ℕ
 
 abbrev pub with_pushed : ℤ → Memory → Memory
-with_pushed n m = record m { stack = n ∷ m.stack; number_room = m.number_room - 1 }
+with_pushed n m = record m { stack = n ∷ m.stack }
 
 abbrev pub with_local : ℕ → ℤ → Memory → Memory
 with_local k n m = record m { frame = slice_set m.frame k n }
@@ -34,8 +35,8 @@ with_entered place claimed count size m =
       frame = reverse (take count m.stack) ++ replicate (size - count) (pos 0);
       stack = [];
       frames = record { place = place; stack = drop count m.stack; cells = m.frame; claimed = claimed } ∷ m.frames;
+      space = m.space - (length m.stack - count);
       cell_room = m.cell_room - size;
-      number_room = m.number_room + count;
       frame_room = m.frame_room - 1;
     }
 
@@ -47,7 +48,7 @@ with_left frame frames m =
       frame = frame.cells;
       stack = frame.stack;
       frames = frames;
+      space = m.space + length frame.stack;
       cell_room = m.cell_room + length m.frame;
-      number_room = m.number_room + length m.stack;
       frame_room = m.frame_room + 1;
     }

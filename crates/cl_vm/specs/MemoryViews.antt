@@ -17,8 +17,8 @@ memory_of m =
       frame = drop m.base m.cells.items;
       stack = reverse (drop m.floor m.numbers.items);
       frames = frames_of (reverse m.waiting.items) (take m.base m.cells.items) (take m.floor m.numbers.items);
+      space = vec_capacity m.numbers - m.floor;
       cell_room = vec_capacity m.cells - vec_len m.cells;
-      number_room = vec_capacity m.numbers - vec_len m.numbers;
       frame_room = vec_capacity m.waiting - vec_len m.waiting;
     }
 

@@ -24,7 +24,7 @@ impl Engine {
     /// Pushes a number.
     #[inline(always)]
     pub(crate) fn push_number(&mut self, n: i64) -> Flow
-        requires { 0 < self.old.memory.number_room }
+        requires { length self.old.memory.stack < self.old.memory.space }
         ensures { ActsAs (λ stack. pure (On (n ∷ stack))) self.old result self.new }
     {
         self.memory.push(n);
@@ -45,7 +45,7 @@ impl Engine {
     #[inline(always)]
     pub(crate) fn load_local(&mut self, k: u32) -> Flow
         requires cell { k < length self.old.memory.frame }
-        requires room { 0 < self.old.memory.number_room }
+        requires room { length self.old.memory.stack < self.old.memory.space }
         ensures { ActsAs (loads Local k) self.old result self.new }
     {
         let n = self.memory.local(k as usize);
@@ -104,7 +104,7 @@ impl Engine {
     #[inline(always)]
     pub(crate) fn load_global(&mut self, k: u32) -> Flow
         requires cell { k < length self.old.memory.globals }
-        requires room { 0 < self.old.memory.number_room }
+        requires room { length self.old.memory.stack < self.old.memory.space }
         ensures { ActsAs (loads Global k) self.old result self.new }
     {
         let n = self.memory.global(k as usize);

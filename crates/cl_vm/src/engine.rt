@@ -37,7 +37,7 @@ impl Engine {
     // Pushes what was computed, or traps.
     #[inline(always)]
     pub(crate) fn give(&mut self, computed: Result<i64, Trap>) -> Flow
-        requires { 0 < self.old.memory.number_room }
+        requires { length self.old.memory.stack < self.old.memory.space }
         ensures { Gave computed self.old result self.new }
     {
         match computed {
@@ -54,7 +54,7 @@ impl Engine {
     pub(crate) fn two(&mut self) -> (i64, i64)
         requires { 2 ≤ length self.old.memory.stack }
         ensures numbers { self.old ≡ with_number result.1 (with_number result.0 self.new) }
-        ensures room { 0 < self.new.memory.number_room }
+        ensures room { length self.new.memory.stack < self.new.memory.space }
     {
         let y = self.memory.pop();
         let x = self.memory.pop();
@@ -66,7 +66,7 @@ impl Engine {
     pub(crate) fn one(&mut self) -> i64
         requires { 1 ≤ length self.old.memory.stack }
         ensures numbers { self.old ≡ with_number result self.new }
-        ensures room { 0 < self.new.memory.number_room }
+        ensures room { length self.new.memory.stack < self.new.memory.space }
     {
         self.memory.pop()
     }
@@ -74,7 +74,7 @@ impl Engine {
     // Pushes 1 or 0.
     #[inline(always)]
     pub(crate) fn tell(&mut self, test: bool) -> Flow
-        requires { 0 < self.old.memory.number_room }
+        requires { length self.old.memory.stack < self.old.memory.space }
         ensures { Gave (Ok (truth test)) self.old result self.new }
     {
         self.memory.push(truth(test));

@@ -49,7 +49,7 @@ impl Memory {
     /// Pushes a number, into room that was made before.
     #[inline(always)]
     pub fn push(&mut self, n: i64)
-        requires { 0 < self.old.number_room }
+        requires { length self.old.stack < self.old.space }
         ensures { self.new ≡ with_pushed n self.old }
     {
         self.numbers.push_reserved(n);
@@ -60,7 +60,7 @@ impl Memory {
     pub fn pop(&mut self) -> i64
         requires { 0 < length self.old.stack }
         ensures number { self.old ≡ with_pushed result self.new }
-        ensures room { 0 < self.new.number_room }
+        ensures room { length self.new.stack < self.new.space }
     {
         match self.numbers.pop() {
             Some(n) => n,
