@@ -30,11 +30,11 @@ module _ (compute : ℤ → ℤ → Checked ℤ) (e : Engine) (x y : ℤ) where
   two_given (Ok n) h flow new gave =
       subst (λ (f : Flow). ActsAs (on_two compute) before_two f new) (sym gave.0)
       (subst (λ (to : Engine). ActsAs (on_two compute) before_two flows.On to) (sym gave.1)
-      (On (n ∷ e.memory.stack), two_found (Ok n) h, (refl, refl), record { frames = refl; output = refl; ticks = refl; depth = refl; cells = refl; sizes = (refl, refl, refl, refl) }))
+      (On (n ∷ e.memory.stack), two_found (Ok n) h, (refl, refl), record { frames = refl; output = refl; ticks = refl; depth = refl; cells = refl; sizes = (refl, refl, refl, refl, refl) }))
   two_given (Err t) h flow new gave =
       subst (λ (f : Flow). ActsAs (on_two compute) before_two f new) (sym gave.0)
       (subst (λ (to : Engine). ActsAs (on_two compute) before_two (flows.Stop t) to) (sym gave.1)
-      (two_found (Err t) h, record { frames = refl; output = refl; ticks = refl; depth = refl; cells = refl; sizes = (refl, refl, refl, refl) }))
+      (two_found (Err t) h, record { frames = refl; output = refl; ticks = refl; depth = refl; cells = refl; sizes = (refl, refl, refl, refl, refl) }))
 
 pub two_acts : (compute : ℤ → ℤ → Checked ℤ) (old mid : Engine) (x y : ℤ) (r : Checked ℤ) (flow : Flow) (new : Engine) → old ≡ with_number y (with_number x mid) → r ≡ compute x y → Gave r mid flow new → ActsAs (on_two compute) old flow new
 two_acts compute old mid x y r flow new e h gave = subst (λ (from : Engine). ActsAs (on_two compute) from flow new) (sym e) (two_given compute mid x y r h flow new gave)
@@ -52,11 +52,11 @@ module _ (compute : ℤ → Checked ℤ) (e : Engine) (x : ℤ) where
   one_given (Ok n) h flow new gave =
       subst (λ (f : Flow). ActsAs (on_one compute) before_one f new) (sym gave.0)
       (subst (λ (to : Engine). ActsAs (on_one compute) before_one flows.On to) (sym gave.1)
-      (On (n ∷ e.memory.stack), one_found (Ok n) h, (refl, refl), record { frames = refl; output = refl; ticks = refl; depth = refl; cells = refl; sizes = (refl, refl, refl, refl) }))
+      (On (n ∷ e.memory.stack), one_found (Ok n) h, (refl, refl), record { frames = refl; output = refl; ticks = refl; depth = refl; cells = refl; sizes = (refl, refl, refl, refl, refl) }))
   one_given (Err t) h flow new gave =
       subst (λ (f : Flow). ActsAs (on_one compute) before_one f new) (sym gave.0)
       (subst (λ (to : Engine). ActsAs (on_one compute) before_one (flows.Stop t) to) (sym gave.1)
-      (one_found (Err t) h, record { frames = refl; output = refl; ticks = refl; depth = refl; cells = refl; sizes = (refl, refl, refl, refl) }))
+      (one_found (Err t) h, record { frames = refl; output = refl; ticks = refl; depth = refl; cells = refl; sizes = (refl, refl, refl, refl, refl) }))
 
 pub one_acts : (compute : ℤ → Checked ℤ) (old mid : Engine) (x : ℤ) (r : Checked ℤ) (flow : Flow) (new : Engine) → old ≡ with_number x mid → r ≡ compute x → Gave r mid flow new → ActsAs (on_one compute) old flow new
 one_acts compute old mid x r flow new e h gave = subst (λ (from : Engine). ActsAs (on_one compute) from flow new) (sym e) (one_given compute mid x r h flow new gave)
@@ -65,11 +65,11 @@ one_acts compute old mid x r flow new e h gave = subst (λ (from : Engine). Acts
 
 pub push_acts : (n : ℤ) (old new : Engine) → new ≡ with_number n old → ActsAs (λ stack. pure (On (n ∷ stack))) old flows.On new
 unfolding pure
-push_acts n old new e = subst (λ (to : Engine). ActsAs (λ stack. pure (On (n ∷ stack))) old flows.On to) (sym e) (On (n ∷ old.memory.stack), refl, (refl, refl), record { frames = refl; output = refl; ticks = refl; depth = refl; cells = refl; sizes = (refl, refl, refl, refl) })
+push_acts n old new e = subst (λ (to : Engine). ActsAs (λ stack. pure (On (n ∷ stack))) old flows.On to) (sym e) (On (n ∷ old.memory.stack), refl, (refl, refl), record { frames = refl; output = refl; ticks = refl; depth = refl; cells = refl; sizes = (refl, refl, refl, refl, refl) })
 
 pub drop_acts : (n : ℤ) (old new : Engine) → old ≡ with_number n new → ActsAs dropped old flows.On new
 unfolding pure dropped
-drop_acts n old new e = subst (λ (from : Engine). ActsAs dropped from flows.On new) (sym e) (On new.memory.stack, refl, (refl, refl), record { frames = refl; output = refl; ticks = refl; depth = refl; cells = refl; sizes = (refl, refl, refl, refl) })
+drop_acts n old new e = subst (λ (from : Engine). ActsAs dropped from flows.On new) (sym e) (On new.memory.stack, refl, (refl, refl), record { frames = refl; output = refl; ticks = refl; depth = refl; cells = refl; sizes = (refl, refl, refl, refl, refl) })
 
 -- ---- cells
 
@@ -82,7 +82,7 @@ unfolding loads ◌>>=◌ then_do variables pure
 loads_found at k n e h stack = ap (λ (o : Option ℤ). Gives (loaded o stack, state_of e)) (sym (ap (λ cells. slice_get cells k) (held at e)) ∙ h)
 
 pub load_acts : (at : Where) (k : ℕ) (n : ℤ) (old new : Engine) → slice_get (held_at at old) k ≡ Some n → new ≡ with_number n old → ActsAs (loads at k) old flows.On new
-load_acts at k n old new h e = subst (λ (to : Engine). ActsAs (loads at k) old flows.On to) (sym e) (On (n ∷ old.memory.stack), loads_found at k n old h old.memory.stack, (refl, refl), record { frames = refl; output = refl; ticks = refl; depth = refl; cells = refl; sizes = (refl, refl, refl, refl) })
+load_acts at k n old new h e = subst (λ (to : Engine). ActsAs (loads at k) old flows.On to) (sym e) (On (n ∷ old.memory.stack), loads_found at k n old h old.memory.stack, (refl, refl), record { frames = refl; output = refl; ticks = refl; depth = refl; cells = refl; sizes = (refl, refl, refl, refl, refl) })
 
 puts_found : (at : Where) (k : ℕ) (n : ℤ) (e : Engine) → k < length (held_at at e) → (stack : Stack) → puts at k n stack (state_of e) ≡ Gives (On stack, state_of (with_cell at k n e))
 unfolding puts ◌>>=◌ ◌>>◌ then_do variables set_variables pure
@@ -91,8 +91,8 @@ puts_found Global k n e h stack = rw (lt-ltb k (length e.memory.globals) h) refl
 
 -- a cell was changed, and nothing else but the stack
 near_cell : (at : Where) (k : ℕ) (n : ℤ) (old mid : Engine) → IsNear old mid → IsNear old (with_cell at k n mid)
-near_cell Local k n old mid near = record { frames = near.frames; output = near.output; ticks = near.ticks; depth = near.depth; cells = near.cells; sizes = (near.sizes.0, near.sizes.1, near.sizes.2, length-set mid.memory.frame k n ∙ near.sizes.3) }
-near_cell Global k n old mid near = record { frames = near.frames; output = near.output; ticks = near.ticks; depth = near.depth; cells = near.cells; sizes = near.sizes }
+near_cell Local k n old mid near = record { frames = near.frames; output = near.output; ticks = near.ticks; depth = near.depth; cells = near.cells; sizes = (near.sizes.0, near.sizes.1, near.sizes.2, length-set mid.memory.frame k n ∙ near.sizes.3, near.sizes.4) }
+near_cell Global k n old mid near = record { frames = near.frames; output = near.output; ticks = near.ticks; depth = near.depth; cells = near.cells; sizes = (near.sizes.0, near.sizes.1, near.sizes.2, near.sizes.3, length-set mid.memory.globals k n ∙ near.sizes.4) }
 
 stands_cell : (at : Where) (k : ℕ) (n : ℤ) (old mid : Engine) → mid.place ≡ old.place → StandsBy (On mid.memory.stack) old (with_cell at k n mid)
 stands_cell Local k n old mid e = (e, refl)
@@ -103,7 +103,7 @@ state_taken : (x : ℤ) (e : Engine) → state_of (with_number x e) ≡ state_of
 state_taken x e = refl
 
 near_taken : (x : ℤ) (e : Engine) → IsNear (with_number x e) e
-near_taken x e = record { frames = refl; output = refl; ticks = refl; depth = refl; cells = refl; sizes = (refl, refl, refl, refl) }
+near_taken x e = record { frames = refl; output = refl; ticks = refl; depth = refl; cells = refl; sizes = (refl, refl, refl, refl, refl) }
 
 store_from : (at : Where) (k : ℕ) (n : ℤ) (mid : Engine) → k < length (held_at at mid) → ActsAs (stores at k) (with_number n mid) flows.On (with_cell at k n mid)
 unfolding stores
@@ -116,7 +116,7 @@ store_acts at k n old mid new e h f = subst (λ (from : Engine). ActsAs (stores 
 
 load_at_from : (at : Where) (base count : ℕ) (x : ℤ) (mid : Engine) (k : ℕ) → index_of x count ≡ Ok k → (n : ℤ) → slice_get (held_at at mid) (base + k) ≡ Some n → ActsAs (loads_at at base count) (with_number x mid) flows.On (with_number n mid)
 unfolding loads_at ◌>>=◌ then_do checked pure
-load_at_from at base count x mid k i n h = (On (n ∷ mid.memory.stack), ap (λ (c : Checked ℕ). (checked c >>= (λ j. loads at (base + j) mid.memory.stack)) (state_of mid)) i ∙ loads_found at (base + k) n mid h mid.memory.stack, (refl, refl), record { frames = refl; output = refl; ticks = refl; depth = refl; cells = refl; sizes = (refl, refl, refl, refl) })
+load_at_from at base count x mid k i n h = (On (n ∷ mid.memory.stack), ap (λ (c : Checked ℕ). (checked c >>= (λ j. loads at (base + j) mid.memory.stack)) (state_of mid)) i ∙ loads_found at (base + k) n mid h mid.memory.stack, (refl, refl), record { frames = refl; output = refl; ticks = refl; depth = refl; cells = refl; sizes = (refl, refl, refl, refl, refl) })
 
 pub load_at_acts : (at : Where) (base count : ℕ) (x : ℤ) (old mid new : Engine) (k : ℕ) (n : ℤ) → old ≡ with_number x mid → index_of x count ≡ Ok k → slice_get (held_at at mid) (base + k) ≡ Some n → new ≡ with_number n mid → ActsAs (loads_at at base count) old flows.On new
 load_at_acts at base count x old mid new k n e i h f = subst (λ (from : Engine). ActsAs (loads_at at base count) from flows.On new) (sym e) (subst (λ (to : Engine). ActsAs (loads_at at base count) (with_number x mid) flows.On to) (sym f) (load_at_from at base count x mid k i n h))
@@ -134,7 +134,7 @@ store_at_from at base count x n mid k i h = (
   On mid.memory.stack,
   ap (λ (c : Checked ℕ). (checked c >>= (λ j. puts at (base + j) n mid.memory.stack)) (state_of mid)) i ∙ puts_found at (base + k) n mid h mid.memory.stack,
   stands_cell at (base + k) n (with_number n (with_number x mid)) mid refl,
-  near_cell at (base + k) n (with_number n (with_number x mid)) mid (record { frames = refl; output = refl; ticks = refl; depth = refl; cells = refl; sizes = (refl, refl, refl, refl) }),
+  near_cell at (base + k) n (with_number n (with_number x mid)) mid (record { frames = refl; output = refl; ticks = refl; depth = refl; cells = refl; sizes = (refl, refl, refl, refl, refl) }),
 )
 
 pub store_at_acts : (at : Where) (base count : ℕ) (x n : ℤ) (old mid new : Engine) (k : ℕ) → old ≡ with_number n (with_number x mid) → index_of x count ≡ Ok k → base + k < length (held_at at mid) → new ≡ with_cell at (base + k) n mid → ActsAs (stores_at at base count) old flows.On new
@@ -142,7 +142,7 @@ store_at_acts at base count x n old mid new k e i h f = subst (λ (from : Engine
 
 store_at_stops_from : (at : Where) (base count : ℕ) (x n : ℤ) (mid : Engine) (t : Trap) → index_of x count ≡ Err t → ActsAs (stores_at at base count) (with_number n (with_number x mid)) (flows.Stop t) mid
 unfolding stores_at ◌>>=◌ then_do checked trap
-store_at_stops_from at base count x n mid t i = (ap (λ (c : Checked ℕ). (checked c >>= (λ j. puts at (base + j) n mid.memory.stack)) (state_of mid)) i, record { frames = refl; output = refl; ticks = refl; depth = refl; cells = refl; sizes = (refl, refl, refl, refl) })
+store_at_stops_from at base count x n mid t i = (ap (λ (c : Checked ℕ). (checked c >>= (λ j. puts at (base + j) n mid.memory.stack)) (state_of mid)) i, record { frames = refl; output = refl; ticks = refl; depth = refl; cells = refl; sizes = (refl, refl, refl, refl, refl) })
 
 pub store_at_stops : (at : Where) (base count : ℕ) (x n : ℤ) (old new : Engine) (t : Trap) → old ≡ with_number n (with_number x new) → index_of x count ≡ Err t → ActsAs (stores_at at base count) old (flows.Stop t) new
 store_at_stops at base count x n old new t e i = subst (λ (from : Engine). ActsAs (stores_at at base count) from (flows.Stop t) new) (sym e) (store_at_stops_from at base count x n new t i)
@@ -151,7 +151,7 @@ store_at_stops at base count x n old new t e i = subst (λ (from : Engine). Acts
 
 check_from : (count : ℕ) (x : ℤ) (mid : Engine) (k : ℕ) → index_of x count ≡ Ok k → ActsAs (checks count) (with_number x mid) flows.On (with_number x mid)
 unfolding checks ◌>>=◌ then_do checked pure
-check_from count x mid k i = (On (x ∷ mid.memory.stack), ap (λ (c : Checked ℕ). (checked c >>= (λ j. pure (On (x ∷ mid.memory.stack)))) (state_of mid)) i, (refl, refl), record { frames = refl; output = refl; ticks = refl; depth = refl; cells = refl; sizes = (refl, refl, refl, refl) })
+check_from count x mid k i = (On (x ∷ mid.memory.stack), ap (λ (c : Checked ℕ). (checked c >>= (λ j. pure (On (x ∷ mid.memory.stack)))) (state_of mid)) i, (refl, refl), record { frames = refl; output = refl; ticks = refl; depth = refl; cells = refl; sizes = (refl, refl, refl, refl, refl) })
 
 pub check_acts : (count : ℕ) (x : ℤ) (old mid new : Engine) (k : ℕ) → old ≡ with_number x mid → index_of x count ≡ Ok k → new ≡ with_number x mid → ActsAs (checks count) old flows.On new
 check_acts count x old mid new k e i f = subst (λ (from : Engine). ActsAs (checks count) from flows.On new) (sym e) (subst (λ (to : Engine). ActsAs (checks count) (with_number x mid) flows.On to) (sym f) (check_from count x mid k i))
@@ -174,7 +174,7 @@ length_cleared base count cells h =
 
 clear_from : (base count : ℕ) (old : Engine) → base + count ≤ length old.memory.frame → ActsAs (clears base count) old flows.On (record old { memory = with_cleared base count old.memory })
 unfolding clears ◌>>=◌ ◌>>◌ then_do variables set_variables pure
-clear_from base count old h = (On old.memory.stack, rw (le-leb (base + count) (length old.memory.frame) h) refl, (refl, refl), record { frames = refl; output = refl; ticks = refl; depth = refl; cells = refl; sizes = (refl, refl, refl, length_cleared base count old.memory.frame h) })
+clear_from base count old h = (On old.memory.stack, rw (le-leb (base + count) (length old.memory.frame) h) refl, (refl, refl), record { frames = refl; output = refl; ticks = refl; depth = refl; cells = refl; sizes = (refl, refl, refl, length_cleared base count old.memory.frame h, refl) })
 
 pub clear_acts : (base count : ℕ) (old new : Engine) → base + count ≤ length old.memory.frame → new ≡ record old { memory = with_cleared base count old.memory } → ActsAs (clears base count) old flows.On new
 clear_acts base count old new h e = subst (λ (to : Engine). ActsAs (clears base count) old flows.On to) (sym e) (clear_from base count old h)
@@ -186,12 +186,12 @@ at_place to e = record e { place = to }
 
 pub jump_acts : (to : ℕ) (old new : Engine) → new ≡ record old { place = to } → ActsAs (λ stack. pure (To to stack)) old flows.On new
 unfolding pure
-jump_acts to old new e = subst (λ (on : Engine). ActsAs (λ stack. pure (To to stack)) old flows.On on) (sym e) (To to old.memory.stack, refl, (refl, refl), record { frames = refl; output = refl; ticks = refl; depth = refl; cells = refl; sizes = (refl, refl, refl, refl) })
+jump_acts to old new e = subst (λ (on : Engine). ActsAs (λ stack. pure (To to stack)) old flows.On on) (sym e) (To to old.memory.stack, refl, (refl, refl), record { frames = refl; output = refl; ticks = refl; depth = refl; cells = refl; sizes = (refl, refl, refl, refl, refl) })
 
 pub jump_zero_goes : (to : ℕ) (old mid new : Engine) → old ≡ with_number (pos 0) mid → new ≡ record mid { place = to } → ActsAs (jumps_if_zero to) old flows.On new
 unfolding pure jumps_if_zero
-jump_zero_goes to old mid new e f = subst (λ (from : Engine). ActsAs (jumps_if_zero to) from flows.On new) (sym e) (subst (λ (on : Engine). ActsAs (jumps_if_zero to) (with_number (pos 0) mid) flows.On on) (sym f) (To to mid.memory.stack, refl, (refl, refl), record { frames = refl; output = refl; ticks = refl; depth = refl; cells = refl; sizes = (refl, refl, refl, refl) }))
+jump_zero_goes to old mid new e f = subst (λ (from : Engine). ActsAs (jumps_if_zero to) from flows.On new) (sym e) (subst (λ (on : Engine). ActsAs (jumps_if_zero to) (with_number (pos 0) mid) flows.On on) (sym f) (To to mid.memory.stack, refl, (refl, refl), record { frames = refl; output = refl; ticks = refl; depth = refl; cells = refl; sizes = (refl, refl, refl, refl, refl) }))
 
 pub jump_zero_stays : (to : ℕ) (x : ℤ) (old new : Engine) → old ≡ with_number x new → is_zero x ≡ false → ActsAs (jumps_if_zero to) old flows.On new
 unfolding pure jumps_if_zero
-jump_zero_stays to x old new e h = subst (λ (from : Engine). ActsAs (jumps_if_zero to) from flows.On new) (sym e) (On new.memory.stack, ap (λ (test : Bool). Gives (if test then To to new.memory.stack else On new.memory.stack, state_of new)) h, (refl, refl), record { frames = refl; output = refl; ticks = refl; depth = refl; cells = refl; sizes = (refl, refl, refl, refl) })
+jump_zero_stays to x old new e h = subst (λ (from : Engine). ActsAs (jumps_if_zero to) from flows.On new) (sym e) (On new.memory.stack, ap (λ (test : Bool). Gives (if test then To to new.memory.stack else On new.memory.stack, state_of new)) h, (refl, refl), record { frames = refl; output = refl; ticks = refl; depth = refl; cells = refl; sizes = (refl, refl, refl, refl, refl) })

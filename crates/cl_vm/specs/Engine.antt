@@ -1,13 +1,16 @@
 -- What an engine stands for: what its process does from here on. (This project.)
-use Rattle.std.specs.Prelude.{◌≡◌, ℕ, suc, List, length, Option, Some, None, ℤ, Ok, Err}
+use Rattle.std.specs.Prelude.{◌≡◌, ℕ, suc, ◌+◌, ◌-◌, ◌<◌, ◌==◌, nat_lt, if◌then◌else◌, List, [], ◌∷◌, length, slice_get, Option, Some, None, ℤ, Ok, Err}
 use Rattle.cl_value.specs.declared.value.Value.{Value}
 use Rattle.cl_value.specs.declared.process.Trap.{Trap}
+use Rattle.cl_value.specs.declared.process.Trap.TheVariants.{StepLimit, CellLimit, CallDepth}
 use Rattle.cl_value.specs.Plain.{PlainReply}
 use Rattle.cl_model.specs.Doing.{Steps, Gives, Stops, State, Checked, ◌>>=◌}
-use Rattle.cl_code.specs.Plain.{PlainProgram}
-use Rattle.cl_code.specs.Machine.{Cells, Does, Stack, Ending, Way, On, To, Where, Local, Global, machine}
+use Rattle.cl_code.specs.Plain.{PlainFunction, PlainProgram}
+use Rattle.cl_code.specs.Rules.{frame_size}
+use Rattle.cl_code.specs.declared.instr.Instr.TheVariants.{Perform}
+use Rattle.cl_code.specs.Machine.{Cells, Does, Stack, Frame, Ending, Way, On, To, Where, Local, Global, machine}
 use Rattle.cl_code.specs.Process.{CodeDemand, code_demand_of}
-use Rattle.cl_vm.specs.Memory.{with_pushed, with_local, with_global}
+use Rattle.cl_vm.specs.Memory.{with_pushed, with_local, with_global, with_entered, with_left}
 use Rattle.cl_vm.specs.declared.engine.Engine.{Engine}
 use Rattle.cl_vm.specs.declared.engine.Flow.{Flow}
 use Rattle.cl_vm.specs.declared.engine.Flow.TheVariants as flows
@@ -49,7 +52,7 @@ pub record IsNear (old new : Engine) : Type 0 where
   pub ticks : new.ticks ≡ old.ticks
   pub depth : new.depth ≡ old.depth
   pub cells : new.cells ≡ old.cells
-  pub sizes : (new.memory.space ≡ old.memory.space) × (new.memory.cell_room ≡ old.memory.cell_room) × (new.memory.frame_room ≡ old.memory.frame_room) × (length new.memory.frame ≡ length old.memory.frame)
+  pub sizes : (new.memory.space ≡ old.memory.space) × (new.memory.cell_room ≡ old.memory.cell_room) × (new.memory.frame_room ≡ old.memory.frame_room) × (length new.memory.frame ≡ length old.memory.frame) × (length new.memory.globals ≡ length old.memory.globals)
 
 -- where it stands; the old one stands at the next address
 abbrev pub StandsBy : Way → Engine → Engine → Type 0
@@ -68,3 +71,49 @@ abbrev pub Led : PlainProgram → Engine → Flow → Engine → Type 0
 Led p old flows.On new = (behind : Behind) (replies : List PlainReply) → onward p behind old replies ≡ onward p behind new replies
 Led p old (flows.Stop t) new = (behind : Behind) (replies : List PlainReply) → onward p behind old replies ≡ code_demand_of (Stops t) new.output.items replies
 Led p old (flows.Over n) new = (behind : Behind) (replies : List PlainReply) → onward p behind old replies ≡ code_demand_of (behind (Some n) (state_of new)) new.output.items replies
+Led p old (flows.Ask site) new = (new ≡ old) × (slice_get p.code old.place ≡ Some (Perform site))
+
+-- ---- calls and ticks
+
+-- why a call traps, if it does
+abbrev pub call_traps : PlainFunction → Engine → Option Trap
+call_traps f e =
+    if e.ticks == 0 then Some StepLimit
+    else (if nat_lt (suc (length e.memory.frames)) 256
+    then (if nat_lt 65536 (e.cells + f.cells) then Some CellLimit else None)
+    else Some CallDepth)
+
+-- a function is entered
+abbrev pub entered : PlainFunction → Engine → Engine
+entered f e =
+    record e {
+      memory = with_entered e.place f.cells (length f.parameters) (frame_size f) e.memory;
+      place = f.entry;
+      ticks = e.ticks - 1;
+      cells = e.cells + f.cells;
+    }
+
+abbrev pub Calls : PlainFunction → Engine → Flow → Engine → Type 0
+Calls f old flows.On new = (call_traps f old ≡ None) × (new ≡ entered f old)
+Calls f old (flows.Stop t) new = (call_traps f old ≡ Some t) × (new.output.items ≡ old.output.items)
+Calls f old _ new = ⊥
+
+abbrev pub Ticks : Engine → Flow → Engine → Type 0
+Ticks old flows.On new = (0 < old.ticks) × (new ≡ record old { ticks = old.ticks - 1 })
+Ticks old (flows.Stop t) new = (old.ticks ≡ 0) × (t ≡ StepLimit) × (new.output.items ≡ old.output.items)
+Ticks old _ new = ⊥
+
+-- a function is left, with this result
+abbrev pub left_with : ℤ → Frame → List Frame → Engine → Engine
+left_with n frame frames e =
+    record e {
+      memory = with_pushed n (with_left frame frames e.memory);
+      place = frame.place;
+      cells = e.cells - frame.claimed;
+    }
+
+-- the function that is active gives the topmost number
+abbrev pub Returns : Engine → Flow → Engine → Type 0
+Returns old flows.On new = (n : ℤ) × (mid : Engine) × (frame : Frame) × (frames : List Frame) × (old ≡ with_number n mid) × (mid.memory.frames ≡ frame ∷ frames) × (new ≡ left_with n frame frames mid)
+Returns old (flows.Over n) new = (old ≡ with_number n new) × (new.memory.frames ≡ [])
+Returns old _ new = ⊥

@@ -1,3 +1,4 @@
 pub mod Memory
 pub mod MemoryViews
 pub mod Engine
+pub mod Runs

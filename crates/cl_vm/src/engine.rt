@@ -15,6 +15,8 @@ pub enum Flow {
     Stop(Trap),
     /// Out of the outermost function, with this result.
     Over(i64),
+    /// To the operation of this site, at which it stands.
+    Ask(u32),
 }
 
 /// A process between two of its instructions.

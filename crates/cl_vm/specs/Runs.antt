@@ -1,0 +1,75 @@
+-- What holds of an engine between two instructions. (This project.)
+use Rattle.std.specs.Prelude.{◌≡◌, ℕ, ◌+◌, ◌-◌, ◌*◌, ◌≤◌, ◌<◌, List, [], ◌∷◌, length, slice_get, Some, None}
+use Rattle.cl_value.specs.Plain.{PlainReply}
+use Rattle.cl_model.specs.Doing.{Gives, State}
+use Rattle.cl_code.specs.Plain.{PlainFunction, PlainProgram}
+use Rattle.cl_code.specs.Machine.{Cells, Frame}
+use Rattle.cl_code.specs.Positions.{Caller, Position, Reached}
+use Rattle.cl_code.specs.Process.{Wrong}
+use Rattle.cl_code.specs.Reach.{pops, pushes}
+use Rattle.cl_code.specs.declared.instr.Instr.{Instr}
+use Rattle.cl_vm.specs.Engine.{Behind, onward}
+use Rattle.cl_vm.specs.declared.engine.Engine.{Engine}
+use Rattle.cl_vm.specs.declared.engine.Flow.{Flow}
+use Rattle.cl_vm.specs.declared.engine.Flow.TheVariants as flows
+
+-- ---- where it is
+
+abbrev pub callers_of : List Frame → List Caller
+callers_of [] = []
+callers_of (f ∷ fs) = record { place = f.place; stack = f.stack } ∷ callers_of fs
+
+abbrev pub position_of : Engine → Position
+position_of e = record { callers = callers_of e.memory.frames; place = e.place; stack = e.memory.stack }
+
+-- ---- whatever it is told, its code isn't wrong
+
+pub record IsSafe (p : PlainProgram) (e : Engine) : Type 0 where
+  pub behind : Behind
+  pub halts : (s : State Cells) → (end : State Cells) × (behind None s ≡ Gives (None, end))
+  pub never : (replies : List PlainReply) → (onward p behind e replies).outcome ≡ Wrong → ⊥
+
+-- ---- there is room for what its functions need
+
+-- how many numbers and cells the functions have that wait
+abbrev pub stacked : List Frame → ℕ
+stacked [] = 0
+stacked (f ∷ fs) = length f.stack + stacked fs
+
+abbrev pub celled : List Frame → ℕ
+celled [] = 0
+celled (f ∷ fs) = length f.cells + celled fs
+
+abbrev pub AreLow : ℕ → List Frame → Type 0
+AreLow most [] = Unit {0}
+AreLow most (f ∷ fs) = (length f.stack ≤ most) × AreLow most fs
+
+-- each function has at most so many cells more than it claimed, where the active one has `size` and all claimed `total`
+abbrev pub AreSized : ℕ → List Frame → ℕ → ℕ → Type 0
+AreSized most [] size total = size ≤ total + most
+AreSized most (f ∷ fs) size total = (size ≤ f.claimed + most) × (f.claimed ≤ total) × AreSized most fs (length f.cells) (total - f.claimed)
+
+pub record IsRoomy (p : PlainProgram) (e : Engine) : Type 0 where
+  -- the highest stack, and the most temporaries
+  pub highest : ℕ
+  pub most : ℕ
+  pub stacks : (k : ℕ) (f : PlainFunction) → slice_get p.functions k ≡ Some f → f.stack ≤ highest
+  pub temporaries : (k : ℕ) (f : PlainFunction) → slice_get p.functions k ≡ Some f → f.temporaries ≤ most
+  pub low : AreLow highest e.memory.frames
+  pub space : e.memory.space + stacked e.memory.frames ≡ 256 * highest
+  pub frames : e.memory.frame_room + length e.memory.frames ≡ 255
+  pub total : length e.memory.globals ≤ e.cells
+  pub limit : e.cells ≤ 65536
+  pub sized : AreSized most e.memory.frames (length e.memory.frame) (e.cells - length e.memory.globals)
+  pub cells : e.memory.cell_room + (length e.memory.globals + (length e.memory.frame + celled e.memory.frames)) ≡ 65536 + 256 * most
+
+pub record Runs (p : PlainProgram) (e : Engine) : Type 0 where
+  pub safe : IsSafe p e
+  pub reached : Reached p e.depth (position_of e)
+  pub roomy : IsRoomy p e
+
+-- it goes on where it leads to an instruction
+abbrev pub RunsOn : PlainProgram → Flow → Engine → Type 0
+RunsOn p flows.On e = Runs p e
+RunsOn p (flows.Ask site) e = Runs p e
+RunsOn p _ e = Unit {0}
