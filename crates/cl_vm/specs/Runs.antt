@@ -1,13 +1,14 @@
 -- What holds of an engine between two instructions. (This project.)
-use Rattle.std.specs.Prelude.{◌≡◌, ℕ, ◌+◌, ◌-◌, ◌*◌, ◌≤◌, ◌<◌, List, [], ◌∷◌, length, slice_get, Some, None}
+use Rattle.std.specs.Prelude.{◌≡◌, ℕ, ℤ, Option, Ok, ◌+◌, ◌-◌, ◌*◌, ◌≤◌, ◌<◌, List, [], ◌∷◌, length, slice_get, Some, None}
 use Rattle.cl_value.specs.Plain.{PlainReply}
 use Rattle.cl_model.specs.Doing.{Gives, State}
 use Rattle.cl_code.specs.Plain.{PlainFunction, PlainProgram}
-use Rattle.cl_code.specs.Machine.{Cells, Frame}
+use Rattle.cl_code.specs.Machine.{Cells, Frame, index_of}
 use Rattle.cl_code.specs.Positions.{Caller, Position, Reached}
 use Rattle.cl_code.specs.Process.{Wrong}
 use Rattle.cl_code.specs.Reach.{pops, pushes}
 use Rattle.cl_code.specs.declared.instr.Instr.{Instr}
+use Rattle.cl_code.specs.declared.instr.Instr.TheVariants.{LoadLocal, LoadGlobal, StoreLocal, StoreGlobal, LoadLocalAt, LoadGlobalAt, StoreLocalAt, StoreGlobalAt, Clear}
 use Rattle.cl_vm.specs.Engine.{Behind, onward}
 use Rattle.cl_vm.specs.declared.engine.Engine.{Engine}
 use Rattle.cl_vm.specs.declared.engine.Flow.{Flow}
@@ -73,3 +74,28 @@ abbrev pub RunsOn : PlainProgram → Flow → Engine → Type 0
 RunsOn p flows.On e = Runs p e
 RunsOn p (flows.Ask site) e = Runs p e
 RunsOn p _ e = Unit {0}
+
+-- ---- what an instruction needs
+
+-- an element of an array, whose index is at this place of the stack
+abbrev pub HasElement : ℕ → ℕ → Option ℤ → ℕ → Type 0
+HasElement base count None length = Unit {0}
+HasElement base count (Some x) length = (k : ℕ) → index_of x count ≡ Ok k → base + k < length
+
+abbrev pub HasCells : Instr → Engine → Type 0
+HasCells (LoadLocal k) e = k < length e.memory.frame
+HasCells (LoadGlobal k) e = k < length e.memory.globals
+HasCells (StoreLocal k) e = k < length e.memory.frame
+HasCells (StoreGlobal k) e = k < length e.memory.globals
+HasCells (LoadLocalAt base count) e = HasElement base count (slice_get e.memory.stack 0) (length e.memory.frame)
+HasCells (LoadGlobalAt base count) e = HasElement base count (slice_get e.memory.stack 0) (length e.memory.globals)
+HasCells (StoreLocalAt base count) e = HasElement base count (slice_get e.memory.stack 1) (length e.memory.frame)
+HasCells (StoreGlobalAt base count) e = HasElement base count (slice_get e.memory.stack 1) (length e.memory.globals)
+HasCells (Clear base count) e = base + count ≤ length e.memory.frame
+HasCells _ e = Unit {0}
+
+-- numbers, space for more, and cells
+pub record HasNeeds (p : PlainProgram) (i : Instr) (e : Engine) : Type 0 where
+  pub operands : pops p i ≤ length e.memory.stack
+  pub space : (length e.memory.stack - pops p i) + pushes p i ≤ e.memory.space
+  pub cells : HasCells i e

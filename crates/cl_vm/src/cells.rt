@@ -1,9 +1,10 @@
 //! What instructions do with cells, and with the place. (This project.)
 
-ghost use Rattle.std.specs.Prelude.{◌≡◌, ◌<◌, ◌≤◌, ◌+◌, ◌∷◌, length};
+ghost use Rattle.std.specs.Prelude.{◌≡◌, ◌<◌, ◌≤◌, ◌+◌, ◌∷◌, length, slice_get};
 ghost use Rattle.cl_code.specs.Machine.{On, To, Local, Global, index_of, dropped, loads, stores, loads_at, stores_at, checks, clears, jumps_if_zero};
 ghost use Rattle.cl_model.specs.Doing.{pure};
 ghost use Rattle.cl_vm.specs.Engine.{ActsAs};
+ghost use Rattle.cl_vm.specs.Runs.{HasElement};
 
 use crate::{Engine, Flow};
 use cl_value::Trap;
@@ -68,7 +69,7 @@ impl Engine {
     /// Takes an index and pushes the element of an array of the frame.
     #[inline(always)]
     pub(crate) fn load_local_at(&mut self, base: u32, count: u32) -> Flow
-        requires cells { base + count ≤ length self.old.memory.frame }
+        requires cells { HasElement base count (slice_get self.old.memory.stack 0) (length self.old.memory.frame) }
         requires number { 1 ≤ length self.old.memory.stack }
         ensures { ActsAs (loads_at Local base count) self.old result self.new }
     {
@@ -86,7 +87,7 @@ impl Engine {
     /// Takes a value and an index, and stores the value in an array of the frame.
     #[inline(always)]
     pub(crate) fn store_local_at(&mut self, base: u32, count: u32) -> Flow
-        requires cells { base + count ≤ length self.old.memory.frame }
+        requires cells { HasElement base count (slice_get self.old.memory.stack 1) (length self.old.memory.frame) }
         requires numbers { 2 ≤ length self.old.memory.stack }
         ensures { ActsAs (stores_at Local base count) self.old result self.new }
     {
@@ -127,7 +128,7 @@ impl Engine {
     /// Takes an index and pushes the element of an array of the globals.
     #[inline(always)]
     pub(crate) fn load_global_at(&mut self, base: u32, count: u32) -> Flow
-        requires cells { base + count ≤ length self.old.memory.globals }
+        requires cells { HasElement base count (slice_get self.old.memory.stack 0) (length self.old.memory.globals) }
         requires number { 1 ≤ length self.old.memory.stack }
         ensures { ActsAs (loads_at Global base count) self.old result self.new }
     {
@@ -145,7 +146,7 @@ impl Engine {
     /// Takes a value and an index, and stores the value in an array of the globals.
     #[inline(always)]
     pub(crate) fn store_global_at(&mut self, base: u32, count: u32) -> Flow
-        requires cells { base + count ≤ length self.old.memory.globals }
+        requires cells { HasElement base count (slice_get self.old.memory.stack 1) (length self.old.memory.globals) }
         requires numbers { 2 ≤ length self.old.memory.stack }
         ensures { ActsAs (stores_at Global base count) self.old result self.new }
     {
