@@ -7,8 +7,9 @@ use Rattle.cl_value.specs.Plain.{PlainReply}
 use Rattle.cl_model.specs.Doing.{Steps, Gives, Stops, State, Checked, ◌>>=◌}
 use Rattle.cl_code.specs.Plain.{PlainFunction, PlainProgram}
 use Rattle.cl_code.specs.Rules.{frame_size}
-use Rattle.cl_code.specs.declared.instr.Instr.TheVariants.{Perform}
-use Rattle.cl_code.specs.Machine.{Cells, Does, Stack, Frame, Ending, Way, On, To, Where, Local, Global, machine}
+use Rattle.cl_code.specs.declared.instr.Instr.TheVariants.{Perform, Print, Tick, Call, Return}
+use Rattle.cl_code.specs.declared.instr.Instr.{Instr}
+use Rattle.cl_code.specs.Machine.{Cells, Does, Stack, Frame, Ending, Way, On, To, Where, Local, Global, effect, machine}
 use Rattle.cl_code.specs.Process.{CodeDemand, code_demand_of}
 use Rattle.cl_vm.specs.Memory.{with_pushed, with_local, with_global, with_entered, with_left}
 use Rattle.cl_vm.specs.declared.engine.Engine.{Engine}
@@ -72,6 +73,7 @@ Led p old flows.On new = (behind : Behind) (replies : List PlainReply) → onwar
 Led p old (flows.Stop t) new = (behind : Behind) (replies : List PlainReply) → onward p behind old replies ≡ code_demand_of (Stops t) new.output.items replies
 Led p old (flows.Over n) new = (behind : Behind) (replies : List PlainReply) → onward p behind old replies ≡ code_demand_of (behind (Some n) (state_of new)) new.output.items replies
 Led p old (flows.Ask site) new = (new ≡ old) × (slice_get p.code old.place ≡ Some (Perform site))
+Led p old (flows.Show format) new = (new ≡ old) × (slice_get p.code old.place ≡ Some (Print format))
 
 -- ---- calls and ticks
 
@@ -117,3 +119,12 @@ abbrev pub Returns : Engine → Flow → Engine → Type 0
 Returns old flows.On new = (n : ℤ) × (mid : Engine) × (frame : Frame) × (frames : List Frame) × (old ≡ with_number n mid) × (mid.memory.frames ≡ frame ∷ frames) × (new ≡ left_with n frame frames mid)
 Returns old (flows.Over n) new = (old ≡ with_number n new) × (new.memory.frames ≡ [])
 Returns old _ new = ⊥
+
+-- what an instruction does, behind which the old one stands
+abbrev pub Acted : PlainProgram → Instr → Engine → Flow → Engine → Type 0
+Acted p Tick old flow new = Ticks old flow new
+Acted p (Call k) old flow new = (f : PlainFunction) × (slice_get p.functions k ≡ Some f) × Calls f old flow new
+Acted p Return old flow new = Returns old flow new
+Acted p (Print format) old flow new = (flow ≡ flows.Show format) × (new ≡ record old { place = old.place - 1 })
+Acted p (Perform site) old flow new = (flow ≡ flows.Ask site) × (new ≡ record old { place = old.place - 1 })
+Acted p i old flow new = ActsAs (effect p old.depth i) old flow new

@@ -8,8 +8,9 @@ use Rattle.cl_code.specs.Positions.{Caller, Position, Reached}
 use Rattle.cl_code.specs.Process.{Wrong}
 use Rattle.cl_code.specs.Reach.{pops, pushes}
 use Rattle.cl_code.specs.declared.instr.Instr.{Instr}
-use Rattle.cl_code.specs.declared.instr.Instr.TheVariants.{LoadLocal, LoadGlobal, StoreLocal, StoreGlobal, LoadLocalAt, LoadGlobalAt, StoreLocalAt, StoreGlobalAt, Clear}
-use Rattle.cl_vm.specs.Engine.{Behind, onward}
+use Rattle.cl_code.specs.declared.instr.Instr.TheVariants.{LoadLocal, LoadGlobal, StoreLocal, StoreGlobal, LoadLocalAt, LoadGlobalAt, StoreLocalAt, StoreGlobalAt, Clear, Call}
+use Rattle.cl_code.specs.Rules.{frame_size}
+use Rattle.cl_vm.specs.Engine.{Behind, onward, call_traps}
 use Rattle.cl_vm.specs.declared.engine.Engine.{Engine}
 use Rattle.cl_vm.specs.declared.engine.Flow.{Flow}
 use Rattle.cl_vm.specs.declared.engine.Flow.TheVariants as flows
@@ -73,6 +74,7 @@ pub record Runs (p : PlainProgram) (e : Engine) : Type 0 where
 abbrev pub RunsOn : PlainProgram → Flow → Engine → Type 0
 RunsOn p flows.On e = Runs p e
 RunsOn p (flows.Ask site) e = Runs p e
+RunsOn p (flows.Show format) e = Runs p e
 RunsOn p _ e = Unit {0}
 
 -- ---- what an instruction needs
@@ -94,8 +96,20 @@ HasCells (StoreGlobalAt base count) e = HasElement base count (slice_get e.memor
 HasCells (Clear base count) e = base + count ≤ length e.memory.frame
 HasCells _ e = Unit {0}
 
+-- the function that is called, with room for it
+pub record CanCall (p : PlainProgram) (k : ℕ) (e : Engine) : Type 0 where
+  pub function : PlainFunction
+  pub is : slice_get p.functions k ≡ Some function
+  pub roomy : call_traps function e ≡ None → (length function.parameters ≤ frame_size function) × (frame_size function ≤ e.memory.cell_room) × (0 < e.memory.frame_room)
+
+abbrev pub HasFunction : PlainProgram → Instr → Engine → Type 0
+HasFunction p (Call k) e = CanCall p k e
+HasFunction p _ e = Unit {0}
+
 -- numbers, space for more, and cells
 pub record HasNeeds (p : PlainProgram) (i : Instr) (e : Engine) : Type 0 where
   pub operands : pops p i ≤ length e.memory.stack
   pub space : (length e.memory.stack - pops p i) + pushes p i ≤ e.memory.space
   pub cells : HasCells i e
+  pub function : HasFunction p i e
+  pub limit : e.cells ≤ 65536

@@ -31,10 +31,9 @@ impl Engine {
     /// Enters a function, whose arguments are the topmost numbers. It goes on at the place.
     pub(crate) fn call(&mut self, function: &Function) -> Flow
         requires arguments { length function.now.parameters.items ≤ length self.old.memory.stack }
-        requires sizes { length function.now.parameters.items ≤ frame_size (plain_function function.now) }
         requires place { self.old.place < 2 ^ 32 }
         requires limit { self.old.cells ≤ 65536 }
-        requires roomy { call_traps (plain_function function.now) self.old ≡ None → (frame_size (plain_function function.now) ≤ self.old.memory.cell_room) × (0 < self.old.memory.frame_room) }
+        requires roomy { call_traps (plain_function function.now) self.old ≡ None → (length function.now.parameters.items ≤ frame_size (plain_function function.now)) × (frame_size (plain_function function.now) ≤ self.old.memory.cell_room) × (0 < self.old.memory.frame_room) }
         ensures { Calls (plain_function function.now) self.old result self.new }
     {
         if self.ticks == 0 {
