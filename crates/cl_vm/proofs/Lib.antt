@@ -2,3 +2,4 @@ pub mod Lists
 pub mod Acts
 pub mod Needs
 pub mod Moves
+pub mod Entering

@@ -29,7 +29,7 @@ module _ (p : PlainProgram) (valid : Valid p) (goes : GoesByInstructions) (e : E
   abbrev behind_it : Behind → List PlainReply → Steps (Way × State Cells) → CodeDemand
   behind_it behind replies steps = code_demand_of (then_do (then_do steps (follows p e.depth e.memory.frames (suc e.place))) behind) e.output.items replies
 
-  opened : (behind : Behind) (replies : List PlainReply) → onward p behind e replies ≡ behind_it behind replies (effect p e.depth i e.memory.stack (state_of e))
+  pub opened : (behind : Behind) (replies : List PlainReply) → onward p behind e replies ≡ behind_it behind replies (effect p e.depth i e.memory.stack (state_of e))
   unfolding ◌>>=◌
   opened behind replies = ap (λ (d : Does Ending). code_demand_of ((d >>= behind) (state_of e)) e.output.items replies) (goes p valid e.depth e.memory.frames e.place i here e.memory.stack)
 
@@ -55,7 +55,7 @@ module _ (p : PlainProgram) (valid : Valid p) (goes : GoesByInstructions) (e : E
   by_way behind replies (Into f ns stack) new stands near = absurd stands
   by_way behind replies Lost new stands near = absurd stands
 
-  acts_led : (flow : Flow) (new : Engine) → ActsAs (effect p e.depth i) stepped_past flow new → Led p e flow new
+  pub acts_led : (flow : Flow) (new : Engine) → ActsAs (effect p e.depth i) stepped_past flow new → Led p e flow new
   unfolding then_do
   acts_led flows.On new (way, does, stands, near) = λ behind replies. opened behind replies ∙ ap (behind_it behind replies) does ∙ by_way behind replies way new stands near
   acts_led (flows.Stop t) new (does, near) = λ behind replies. opened behind replies ∙ ap (behind_it behind replies) does ∙ ap (λ (out : List ℕ). code_demand_of (Stops t) out replies) (sym near.output)
@@ -68,7 +68,7 @@ module _ (p : PlainProgram) (valid : Valid p) (goes : GoesByInstructions) (e : E
   may_lead : (way : Way) (s : State Cells) → effect p e.depth i e.memory.stack (state_of e) ≡ Gives (way, s) → MayLead p e.depth (position_of e) way
   may_lead way s does = (i, here, state_of e, subst (λ (steps : Steps (Way × State Cells)). MayGive steps way) (sym does) refl)
 
-  reaches_by : (way : Way) (s : State Cells) → effect p e.depth i e.memory.stack (state_of e) ≡ Gives (way, s) → Reached p e.depth (position_of e) → (y : Position) → led_to p (position_of e) way ≡ Some y → Reached p e.depth y
+  pub reaches_by : (way : Way) (s : State Cells) → effect p e.depth i e.memory.stack (state_of e) ≡ Gives (way, s) → Reached p e.depth (position_of e) → (y : Position) → led_to p (position_of e) way ≡ Some y → Reached p e.depth y
   reaches_by way s does reached y led = GoesOn (position_of e) way y reached (may_lead way s does) led
 
   position_is : (place : ℕ) (stack : Stack) (new : Engine) → new.place ≡ place → new.memory.stack ≡ stack → IsNear stepped_past new → record { callers = callers_of e.memory.frames; place = place; stack = stack } ≡ position_of new
@@ -103,14 +103,14 @@ module _ (p : PlainProgram) (valid : Valid p) (goes : GoesByInstructions) (e : E
 
   -- ---- all of it
 
-  led_safe : (new : Engine) → Led p e flows.On new → IsSafe p e → IsSafe p new
+  pub led_safe : (new : Engine) → Led p e flows.On new → IsSafe p e → IsSafe p new
   led_safe new led safe = record {
     behind = safe.behind;
     halts = safe.halts;
     never = λ replies wrong. safe.never replies (ap (λ (d : CodeDemand). d.outcome) (led safe.behind replies) ∙ wrong);
   }
 
-  acts_runs : (flow : Flow) (new : Engine) → ActsAs (effect p e.depth i) stepped_past flow new → Runs p e → RunsOn p flow new
+  pub acts_runs : (flow : Flow) (new : Engine) → ActsAs (effect p e.depth i) stepped_past flow new → Runs p e → RunsOn p flow new
   acts_runs flows.On new (way, does, stands, near) runs =
       record {
         safe = led_safe new (acts_led flows.On new (way, does, stands, near)) runs.safe;
@@ -144,7 +144,7 @@ module _ (p : PlainProgram) (valid : Valid p) (goes : GoesByInstructions) (e : E
   unfolding then_do ◌>>=◌
   tick_led_on h = λ behind replies. tick_opened behind replies ∙ ap (behind_ticks behind replies) (counted_some (state_of e) e.ticks h)
 
-  tick_led : (flow : Flow) (new : Engine) → Ticks (record e { place = suc e.place }) flow new → Led p e flow new
+  pub tick_led : (flow : Flow) (new : Engine) → Ticks (record e { place = suc e.place }) flow new → Led p e flow new
   unfolding then_do
   tick_led flows.On new (h, is) = subst (λ (to : Engine). Led p e flows.On to) (sym is) (tick_led_on h)
   tick_led (flows.Stop t) new (none, is, out) = λ behind replies.
@@ -175,7 +175,7 @@ module _ (p : PlainProgram) (valid : Valid p) (goes : GoesByInstructions) (e : E
   unfolding effect pure
   tick_leads = refl
 
-  tick_runs : (flow : Flow) (new : Engine) → Ticks (record e { place = suc e.place }) flow new → Runs p e → RunsOn p flow new
+  pub tick_runs : (flow : Flow) (new : Engine) → Ticks (record e { place = suc e.place }) flow new → Runs p e → RunsOn p flow new
   tick_runs flows.On new (h, is) runs =
       subst (λ (to : Engine). Runs p to) (sym is)
       (record {
@@ -248,7 +248,7 @@ module _ (p : PlainProgram) (valid : Valid p) (goes : GoesByInstructions) (e : E
   before : (n : ℤ) (mid : Engine) → record e { place = suc e.place } ≡ with_number n mid → e ≡ record mid { memory = with_pushed n mid.memory; place = e.place }
   before n mid is = ap (λ (x : Engine). record x { place = e.place }) is
 
-  returns_led : (flow : Flow) (new : Engine) → Returns (record e { place = suc e.place }) flow new → Led p e flow new
+  pub returns_led : (flow : Flow) (new : Engine) → Returns (record e { place = suc e.place }) flow new → Led p e flow new
   returns_led flows.On new (n, mid, frame, frames, was, is, to) =
       subst (λ (x : Engine). Led p e flows.On x) (sym to)
       (subst (λ (x : Engine). Led p x flows.On (left_with n frame frames mid)) (sym (before n mid was)) (return_led p valid goes mid n e.place here frame frames is))
@@ -257,7 +257,7 @@ module _ (p : PlainProgram) (valid : Valid p) (goes : GoesByInstructions) (e : E
   returns_led (flows.Ask site) new h = absurd h
   returns_led (flows.Show format) new h = absurd h
 
-  returns_runs : (flow : Flow) (new : Engine) → Returns (record e { place = suc e.place }) flow new → Runs p e → RunsOn p flow new
+  pub returns_runs : (flow : Flow) (new : Engine) → Returns (record e { place = suc e.place }) flow new → Runs p e → RunsOn p flow new
   returns_runs flows.On new (n, mid, frame, frames, was, is, to) runs = subst (λ (x : Engine). Runs p x) (sym to) (return_runs p valid goes mid n e.place here frame frames is (subst (λ (x : Engine). Runs p x) (before n mid was) runs))
   returns_runs (flows.Over n) new h runs = tt
   returns_runs (flows.Stop t) new h runs = tt
