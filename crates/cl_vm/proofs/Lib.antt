@@ -3,3 +3,4 @@ pub mod Acts
 pub mod Needs
 pub mod Moves
 pub mod Entering
+pub mod Stepping

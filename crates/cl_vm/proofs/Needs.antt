@@ -66,13 +66,19 @@ module _ (p : PlainProgram) (valid : Valid p) (heights : HeightsAreMet) (stacks 
   abbrev here_is : Instr → Type 0
   here_is i = slice_get p.code e.place ≡ Some i
 
-  low_enough : roomy.highest ≤ e.memory.space
+  pub low_enough : roomy.highest ≤ e.memory.space
   low_enough =
       let rest = stacked_low roomy.highest e.memory.frames roomy.low in
       let few : length e.memory.frames ≤ 255 = omega (arith, roomy.frames) in
       let most = mul-le-mul_right roomy.highest few in
       let all = roomy.space in
       omega (arith, rest, most, all)
+
+  pub stack_low : length e.memory.stack ≤ roomy.highest
+  stack_low =
+      let (f, at, low) = at_there p valid heights stacks e.depth (position_of e) reached in
+      let s = roomy.stacks _ f at.owner in
+      omega (arith, low, s)
 
   low_at_most : (n : ℕ) (f : PlainFunction) → function_at p e.place ≡ Some f → n ≤ f.stack → n ≤ e.memory.space
   low_at_most n f owner low = let s = roomy.stacks _ f owner in let t = low_enough in omega (arith, low, s, t)

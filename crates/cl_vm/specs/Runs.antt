@@ -10,7 +10,7 @@ use Rattle.cl_code.specs.Reach.{pops, pushes}
 use Rattle.cl_code.specs.declared.instr.Instr.{Instr}
 use Rattle.cl_code.specs.declared.instr.Instr.TheVariants.{LoadLocal, LoadGlobal, StoreLocal, StoreGlobal, LoadLocalAt, LoadGlobalAt, StoreLocalAt, StoreGlobalAt, Clear, Call}
 use Rattle.cl_code.specs.Rules.{frame_size}
-use Rattle.cl_vm.specs.Engine.{Behind, onward, call_traps}
+use Rattle.cl_vm.specs.Engine.{Behind, onward, call_traps, Led}
 use Rattle.cl_vm.specs.declared.engine.Engine.{Engine}
 use Rattle.cl_vm.specs.declared.engine.Flow.{Flow}
 use Rattle.cl_vm.specs.declared.engine.Flow.TheVariants as flows
@@ -76,6 +76,11 @@ RunsOn p flows.On e = Runs p e
 RunsOn p (flows.Ask site) e = Runs p e
 RunsOn p (flows.Show format) e = Runs p e
 RunsOn p _ e = Unit {0}
+
+-- what one step does
+pub record Stepped (p : PlainProgram) (old : Engine) (flow : Flow) (new : Engine) : Type 0 where
+  pub led : Led p old flow new
+  pub runs : RunsOn p flow new
 
 -- ---- what an instruction needs
 

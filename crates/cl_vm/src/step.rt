@@ -3,8 +3,9 @@
 ghost use Rattle.std.specs.Prelude.{◌≡◌, ◌<◌, ◌≤◌, ◌+◌, ◌-◌, ◌^◌, length, slice_get, Some};
 ghost use Rattle.cl_code.specs.Plain.{plain_program};
 ghost use Rattle.cl_code.specs.Sites.{parameters_at};
-ghost use Rattle.cl_vm.specs.Engine.{Acted, Led};
-ghost use Rattle.cl_vm.specs.Runs.{CanCall, HasNeeds, Runs, RunsOn};
+ghost use Rattle.cl_code.specs.Valid.{Valid};
+ghost use Rattle.cl_vm.specs.Engine.{Acted};
+ghost use Rattle.cl_vm.specs.Runs.{CanCall, HasNeeds, Runs, Stepped};
 
 use crate::{Engine, Flow};
 use cl_code::{Instr, Program, each_height_is_met, each_instruction_leads_on};
@@ -17,6 +18,7 @@ impl Engine {
         ensures here { slice_get (plain_program program.now).code self.now.place ≡ Some result }
         ensures needs { HasNeeds (plain_program program.now) result self.now }
         ensures place { self.now.place + 1 < 2 ^ 32 }
+        ensures valid { Valid (plain_program program.now) }
     {
         each_height_is_met();
         each_instruction_leads_on();
@@ -95,5 +97,18 @@ impl Engine {
                 Flow::Ask(site)
             }
         }
+    }
+
+    /// Does one instruction.
+    #[inline(always)]
+    pub(crate) fn step(&mut self, program: &Program) -> Flow
+        requires { Runs (plain_program program.now) self.old }
+        ensures { Stepped (plain_program program.now) self.old result self.new }
+    {
+        each_height_is_met();
+        each_instruction_leads_on();
+        let i = self.fetch(program);
+        self.place += 1;
+        self.perform(program, i)
     }
 }
