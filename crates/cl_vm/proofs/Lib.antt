@@ -3,4 +3,5 @@ pub mod Acts
 pub mod Needs
 pub mod Moves
 pub mod Entering
+pub mod Falling
 pub mod Stepping

@@ -1,5 +1,5 @@
 -- What holds of an engine between two instructions. (This project.)
-use Rattle.std.specs.Prelude.{◌≡◌, ℕ, ℤ, Option, Ok, ◌+◌, ◌-◌, ◌*◌, ◌≤◌, ◌<◌, List, [], ◌∷◌, length, slice_get, Some, None}
+use Rattle.std.specs.Prelude.{◌≡◌, if◌then◌else◌, suc, ℕ, ℤ, Option, Ok, ◌+◌, ◌-◌, ◌*◌, ◌≤◌, ◌<◌, List, [], ◌∷◌, length, slice_get, Some, None}
 use Rattle.cl_value.specs.Plain.{PlainReply}
 use Rattle.cl_model.specs.Doing.{Gives, State}
 use Rattle.cl_code.specs.Plain.{PlainFunction, PlainProgram}
@@ -9,7 +9,7 @@ use Rattle.cl_code.specs.Process.{Wrong}
 use Rattle.cl_code.specs.Reach.{pops, pushes}
 use Rattle.cl_code.specs.declared.instr.Instr.{Instr}
 use Rattle.cl_code.specs.declared.instr.Instr.TheVariants.{LoadLocal, LoadGlobal, StoreLocal, StoreGlobal, LoadLocalAt, LoadGlobalAt, StoreLocalAt, StoreGlobalAt, Clear, Call}
-use Rattle.cl_code.specs.Rules.{frame_size}
+use Rattle.cl_code.specs.Rules.{frame_size, is_tick}
 use Rattle.cl_vm.specs.Engine.{Behind, onward, call_traps, Led}
 use Rattle.cl_vm.specs.declared.engine.Engine.{Engine}
 use Rattle.cl_vm.specs.declared.engine.Flow.{Flow}
@@ -77,10 +77,25 @@ RunsOn p (flows.Ask site) e = Runs p e
 RunsOn p (flows.Show format) e = Runs p e
 RunsOn p _ e = Unit {0}
 
+-- how far it is from its end: by the ticks that are left, whether it stands at a tick, the frames, and the code ahead
+abbrev pub tick_bit : PlainProgram → ℕ → ℕ
+tick_bit p place = if is_tick (slice_get p.code place) then 0 else 1
+
+abbrev pub distance : ℕ → ℕ → ℕ → ℕ → ℕ → ℕ
+distance length ticks bit frames place = (2 * ticks + bit) * (257 * suc length) + (frames * suc length + (suc length - place))
+
+abbrev pub distance_of : PlainProgram → Engine → ℕ
+distance_of p e = distance (length p.code) e.ticks (tick_bit p e.place) (length e.memory.frames) e.place
+
+abbrev pub Falls : PlainProgram → Engine → Flow → Engine → Type 0
+Falls p old flows.On new = distance_of p new < distance_of p old
+Falls p old _ new = Unit {0}
+
 -- what one step does
 pub record Stepped (p : PlainProgram) (old : Engine) (flow : Flow) (new : Engine) : Type 0 where
   pub led : Led p old flow new
   pub runs : RunsOn p flow new
+  pub falls : Falls p old flow new
 
 -- ---- what an instruction needs
 
