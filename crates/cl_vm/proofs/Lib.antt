@@ -5,3 +5,4 @@ pub mod Moves
 pub mod Entering
 pub mod Falling
 pub mod Stepping
+pub mod Pieces

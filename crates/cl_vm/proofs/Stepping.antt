@@ -9,7 +9,7 @@ use Rattle.cl_code.specs.Laws.{HeightsAreMet, StacksAreLow, GoesByInstructions}
 use Rattle.cl_code.specs.declared.instr.Instr.{Instr}
 use Rattle.cl_code.specs.declared.instr.Instr.TheVariants.{Tick, Call, Return, Print, Perform}
 use Rattle.cl_vm.specs.Engine.{Led, Acted}
-use Rattle.cl_vm.specs.Runs.{Runs, RunsOn, HasNeeds, Stepped}
+use Rattle.cl_vm.specs.Runs.{Runs, RunsOn, HasNeeds, Stepped, Leads}
 use Rattle.cl_vm.specs.declared.engine.Engine.{Engine}
 use Rattle.cl_vm.specs.declared.engine.Flow.{Flow}
 use Rattle.cl_vm.specs.declared.engine.Flow.TheVariants as flows
@@ -49,3 +49,6 @@ module _ (p : PlainProgram) (valid : Valid p) (heights : HeightsAreMet) (stacks 
       let same : new ≡ e = to ∙ back in
       subst (λ (f : Flow). Stepped p e f new) (sym is) (record { led = (same, here); runs = subst (λ (x : Engine). Runs p x) (sym same) runs; falls = tt })
   stepped i here flow new acted = record { led = acts_led p valid goes e i here flow new acted; runs = acts_runs p valid goes e i here flow new acted runs; falls = acts_falls p valid e i here refl few flow new acted }
+
+pub leads_on : (p : PlainProgram) (a b c : Engine) → Leads p a b → Leads p b c → Leads p a c
+leads_on p a b c h k = λ behind replies. h behind replies ∙ k behind replies

@@ -2,3 +2,4 @@ pub mod Memory
 pub mod MemoryViews
 pub mod Engine
 pub mod Runs
+pub mod Printing

@@ -97,6 +97,18 @@ pub record Stepped (p : PlainProgram) (old : Engine) (flow : Flow) (new : Engine
   pub runs : RunsOn p flow new
   pub falls : Falls p old flow new
 
+-- as much is demanded of both
+abbrev pub Leads : PlainProgram → Engine → Engine → Type 0
+Leads p old new = (behind : Behind) (replies : List PlainReply) → onward p behind old replies ≡ onward p behind new replies
+
+-- what steps did up to one that leads elsewhere than to an instruction
+pub record Ran (p : PlainProgram) (old : Engine) (flow : Flow) (new : Engine) : Type 0 where
+  pub last : Engine
+  pub leads : Leads p old last
+  pub led : Led p last flow new
+  pub runs : RunsOn p flow new
+  pub stops : flow ≡ flows.On → ⊥
+
 -- ---- what an instruction needs
 
 -- an element of an array, whose index is at this place of the stack

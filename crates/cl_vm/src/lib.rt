@@ -7,6 +7,7 @@ mod cells;
 mod engine;
 mod memory;
 mod numbers;
+mod output;
 mod step;
 
 pub use engine::{Engine, Flow};

@@ -5,7 +5,7 @@ ghost use Rattle.cl_code.specs.Plain.{plain_program};
 ghost use Rattle.cl_code.specs.Sites.{parameters_at};
 ghost use Rattle.cl_code.specs.Valid.{Valid};
 ghost use Rattle.cl_vm.specs.Engine.{Acted};
-ghost use Rattle.cl_vm.specs.Runs.{CanCall, HasNeeds, Runs, Stepped};
+ghost use Rattle.cl_vm.specs.Runs.{CanCall, HasNeeds, Ran, Runs, Stepped};
 
 use crate::{Engine, Flow};
 use cl_code::{Instr, Program, each_height_is_met, each_instruction_leads_on};
@@ -110,5 +110,18 @@ impl Engine {
         let i = self.fetch(program);
         self.place += 1;
         self.perform(program, i)
+    }
+
+    /// Does instructions up to a trap, an end, an operation or an output.
+    pub(crate) fn run(&mut self, program: &Program) -> Flow
+        requires { Runs (plain_program program.now) self.old }
+        ensures { Ran (plain_program program.now) self.old result self.new }
+    {
+        'steps: loop {
+            match self.step(program) {
+                Flow::On => {}
+                flow => return flow,
+            }
+        }
     }
 }
