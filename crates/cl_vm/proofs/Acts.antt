@@ -1,5 +1,5 @@
 -- What the functions of an engine do is what an instruction does with the stack.
-use Rattle.std.proofs.Common.{◌≡◌, ℕ, List, [], ◌∷◌, Option, Some, None, length, ◌+◌, ◌<◌, ◌≤◌, refl, sym, ap, ◌∙◌, subst}
+use Rattle.std.proofs.Common.{◌≡◌, ℕ, List, [], ◌∷◌, Option, Some, None, length, ◌+◌, ◌-◌, ◌<◌, ◌≤◌, refl, sym, ap, ◌∙◌, subst}
 use Rattle.std.proofs.lemmas.Bool.{lt-ltb, le-leb}
 use Rattle.std.proofs.Common.{◌++◌, take, drop, arith, length-append, length-drop}
 use Rattle.std.proofs.lemmas.List.{length-take-le, length-set, length-replicate}
@@ -8,12 +8,12 @@ use Rattle.std.specs.Prelude.{ℤ, pos, Ok, Err, slice_get, slice_set, if◌then
 use Rattle.cl_value.specs.declared.process.Trap.{Trap}
 use Rattle.cl_model.specs.Doing.{Steps, Gives, Stops, State, Checked, then_do, ◌>>=◌, ◌>>◌, pure, trap, checked, variables, set_variables}
 use Rattle.cl_code.specs.Arithmetic.{is_zero}
-use Rattle.cl_code.specs.Machine.{Cells, Does, Stack, Way, On, To, Where, Local, Global, cells_at, loaded, index_of, cleared, on_one, on_two, dropped, loads, puts, stores, loads_at, stores_at, checks, clears, jumps_if_zero}
+use Rattle.cl_code.specs.Machine.{Frame, Cells, Does, Stack, Way, On, To, Where, Local, Global, cells_at, loaded, index_of, cleared, on_one, on_two, dropped, loads, puts, stores, loads_at, stores_at, checks, clears, jumps_if_zero}
 use Rattle.cl_vm.specs.declared.engine.Engine.{Engine}
 use Rattle.cl_vm.specs.declared.engine.Flow.{Flow}
 use Rattle.cl_vm.specs.declared.engine.Flow.TheVariants as flows
-use Rattle.cl_vm.specs.Memory.{Memory, with_pushed, with_cleared}
-use Rattle.cl_vm.specs.Engine.{state_of, with_number, with_cell, held_at, Gave, IsNear, StandsBy, ActsAs}
+use Rattle.cl_vm.specs.Memory.{Memory, with_pushed, with_cleared, with_left}
+use Rattle.cl_vm.specs.Engine.{state_of, left_with, with_number, with_cell, held_at, Gave, IsNear, StandsBy, ActsAs}
 
 -- ---- numbers of the stack
 
@@ -195,3 +195,11 @@ jump_zero_goes to old mid new e f = subst (λ (from : Engine). ActsAs (jumps_if_
 pub jump_zero_stays : (to : ℕ) (x : ℤ) (old new : Engine) → old ≡ with_number x new → is_zero x ≡ false → ActsAs (jumps_if_zero to) old flows.On new
 unfolding pure jumps_if_zero
 jump_zero_stays to x old new e h = subst (λ (from : Engine). ActsAs (jumps_if_zero to) from flows.On new) (sym e) (On new.memory.stack, ap (λ (test : Bool). Gives (if test then To to new.memory.stack else On new.memory.stack, state_of new)) h, (refl, refl), record { frames = refl; output = refl; ticks = refl; depth = refl; cells = refl; sizes = (refl, refl, refl, refl, refl) })
+
+-- ---- a function is left
+
+pub left_again : (n : ℤ) (mid : Engine) (frame : Frame) (frames : List Frame) (memory : Memory) (place cells : ℕ) → memory ≡ with_pushed n (with_left frame frames mid.memory) → place ≡ frame.place → cells ≡ mid.cells - frame.claimed → record mid { memory = memory; place = place; cells = cells } ≡ left_with n frame frames mid
+left_again n mid frame frames memory place cells m p c =
+    ap (λ (x : Memory). record mid { memory = x; place = place; cells = cells }) m
+    ∙ ap (λ (x : ℕ). record mid { memory = with_pushed n (with_left frame frames mid.memory); place = x; cells = cells }) p
+    ∙ ap (λ (x : ℕ). record mid { memory = with_pushed n (with_left frame frames mid.memory); place = frame.place; cells = x }) c

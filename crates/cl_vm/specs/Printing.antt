@@ -36,3 +36,19 @@ second_byte (a ∷ rest) = first_byte rest
 -- the first piece of a text has so many bytes
 abbrev pub IsFirst : List ℕ → Piece → ℕ → Type 0
 IsFirst text piece count = (more : List Piece) × (pieces text ≡ Some (piece ∷ more)) × (pieces (drop count text) ≡ Some more) × (0 < count) × (count ≤ length text)
+
+-- bytes were added, or would be too many
+abbrev pub Added : List ℕ → Bool → List ℕ → List ℕ → Type 0
+Added old true bytes new = (new ≡ old ++ bytes) × (length new ≤ 65536)
+Added old false bytes new = (new ≡ old) × (65536 < length old + length bytes)
+
+-- what was printed of a text, whose pieces are these, with these numbers
+abbrev pub Prints : List ℕ → Bool → List ℕ → List ℕ → List ℤ → Type 0
+Prints old done new text numbers = (all : List Piece) → pieces text ≡ Some all → Added old done (printed all numbers) new
+
+-- the bytes of one piece, by the numbers that are left, and the numbers behind it
+abbrev pub piece_bytes : PieceKind → List ℤ → List ℕ
+piece_bytes piece numbers = printed (plain_piece piece ∷ []) numbers
+
+abbrev pub takes_of : PieceKind → ℕ
+takes_of piece = count_of (plain_piece piece ∷ [])

@@ -4,7 +4,7 @@ ghost use Rattle.cl_vm.specs.Engine.{Gave, with_number};
 
 use crate::Memory;
 use crate::arithmetic::truth;
-use cl_value::{Items, Trap};
+use cl_value::Trap;
 
 /// Where an instruction leads.
 #[derive(Clone, Copy)]
@@ -32,7 +32,7 @@ pub struct Engine {
     /// How many cells are in use, those of the globals among them.
     pub(crate) cells: usize,
     /// What it printed.
-    pub(crate) output: Items<u8>,
+    pub(crate) output: Vec<u8>,
     /// How many `eval`s led to it.
     pub(crate) depth: u32,
 }

@@ -1,8 +1,14 @@
 //! What a process prints. (ISO/IEC 9899:1999, 7.19.6.1.)
 
-ghost use Rattle.std.specs.Prelude.{◌≡◌, ◌<◌, List, length, Some};
-ghost use Rattle.cl_code.specs.Formats.{Piece, pieces};
-ghost use Rattle.cl_vm.specs.Printing.{bytes_of, first_byte, kind_of, second_byte};
+ghost use Rattle.std.specs.Prelude.{◌≡◌, ◌<◌, ◌≤◌, List, length, Some, vec_capacity};
+ghost use Rattle.cl_code.specs.Formats.{Piece, count_of, pieces};
+ghost use Rattle.cl_vm.specs.Printing.{Added, Prints, bytes_of, first_byte, kind_of, piece_bytes, second_byte, takes_of};
+
+use crate::arithmetic::byte_of;
+use itoa::Buffer;
+
+/// How many bytes a process prints at most.
+pub const MOST_PRINTED: usize = 65_536;
 
 /// A piece of the text of a `printf`.
 #[derive(Clone, Copy)]
@@ -48,5 +54,50 @@ fn piece_of(a: u8, b: u8) -> (PieceKind, usize)
         (PieceKind::Byte(b'%'), 2)
     } else {
         (PieceKind::Decimal, 3)
+    }
+}
+
+// Adds bytes, into room that was made before, unless they would be too many.
+fn add(output: &mut Vec<u8>, bytes: &[u8]) -> bool
+    requires room { 65536 ≤ vec_capacity output.old }
+    requires few { length output.old.items ≤ 65536 }
+    ensures added { Added output.old.items result bytes.now output.new.items }
+    ensures capacity { vec_capacity output.new ≡ vec_capacity output.old }
+{
+    if bytes.len() > MOST_PRINTED - output.len() {
+        return false;
+    }
+    for byte in bytes {
+        output.push_reserved(*byte);
+    }
+    true
+}
+
+// How many numbers a piece takes.
+fn takes(piece: PieceKind) -> usize
+    ensures { result ≡ takes_of piece }
+{
+    match piece {
+        PieceKind::Byte(_) => 0,
+        PieceKind::Decimal => 1,
+        PieceKind::Character => 1,
+    }
+}
+
+// Prints a piece, whose number is the first of these.
+fn print_piece(output: &mut Vec<u8>, piece: PieceKind, numbers: &[i64]) -> bool
+    requires room { 65536 ≤ vec_capacity output.old }
+    requires few { length output.old.items ≤ 65536 }
+    requires numbers { takes_of piece ≤ length numbers.now }
+    ensures added { Added output.old.items result (piece_bytes piece numbers.now) output.new.items }
+    ensures capacity { vec_capacity output.new ≡ vec_capacity output.old }
+{
+    match piece {
+        PieceKind::Byte(byte) => add(output, &[byte]),
+        PieceKind::Decimal => {
+            let mut digits = Buffer::new();
+            add(output, digits.format(numbers[0]).as_bytes())
+        }
+        PieceKind::Character => add(output, &[byte_of(numbers[0])]),
     }
 }
