@@ -1,9 +1,10 @@
 -- The first piece of a text.
-use Rattle.std.proofs.Common.{◌≡◌, ℕ, suc, ◌+◌, ◌<◌, ◌≤◌, Bool, true, false, List, [], ◌∷◌, ◌++◌, length, drop, Option, Some, None, refl, sym, ap, ◌∙◌, subst, arith, eqb-true}
+use Rattle.std.proofs.Common.{◌≡◌, ℕ, suc, ◌+◌, ◌<◌, ◌≤◌, Bool, true, false, List, [], ◌∷◌, ◌++◌, length, drop, Option, Some, None, refl, sym, ap, ◌∙◌, subst, arith, eqb-true, append-nil, append_assoc, length-append, length-drop}
+use Rattle.std.specs.Fmt.{signed_decimal}
 use Rattle.std.specs.Prelude.{ℤ, ◌==◌, if◌then◌else◌, option_map}
 use Rattle.std.proofs.lemmas.Option.{same_Some}
 use Rattle.cl_code.specs.Formats.{Piece, Byte, Decimal, Character, pieces, count_of, printed}
-use Rattle.cl_vm.specs.Printing.{plain_piece, kind_of, bytes_of, first_byte, second_byte, IsFirst}
+use Rattle.cl_vm.specs.Printing.{plain_piece, kind_of, bytes_of, first_byte, second_byte, IsFirst, PrintsOn, Added, piece_bytes, takes_of}
 use Rattle.cl_vm.specs.declared.output.PieceKind.{PieceKind}
 use Rattle.cl_vm.specs.declared.output.PieceKind.TheVariants as kinds
 
@@ -81,3 +82,121 @@ first_is [] some all is = absurd (omega (arith, some))
 first_is (a ∷ []) some all is = one_by a (a == 37) all is is
 first_is (a ∷ b ∷ []) some all is = first_two a b all is
 first_is (a ∷ b ∷ c ∷ bytes) some all is = first_long a b c bytes all is
+
+-- ---- printing
+
+printed_split : (x : Piece) (more : List Piece) (ns : List ℤ) → count_of (x ∷ []) ≤ length ns → printed (x ∷ more) ns ≡ printed (x ∷ []) ns ++ printed more (drop (count_of (x ∷ [])) ns)
+printed_split (Byte b) more ns h = refl
+printed_split Decimal more [] h = absurd (omega (arith, h))
+printed_split Decimal more (n ∷ ns) h = ap (λ (bytes : List ℕ). bytes ++ printed more ns) (sym (append-nil (signed_decimal n)))
+printed_split Character more [] h = absurd (omega (arith, h))
+printed_split Character more (n ∷ ns) h = refl
+
+count_split : (x : Piece) (more : List Piece) → count_of (x ∷ more) ≡ count_of (x ∷ []) + count_of more
+count_split (Byte b) more = omega arith
+count_split Decimal more = omega arith
+count_split Character more = omega arith
+
+module _ (before now text rest : List ℕ) (numbers left : List ℤ) (on : PrintsOn before now text rest numbers left) (some : 0 < length rest) where
+  abbrev kind : PieceKind
+  kind = kind_of (first_byte rest) (second_byte rest)
+
+  abbrev size : ℕ
+  size = bytes_of (first_byte rest) (second_byte rest)
+
+  pub piece_first : IsFirst rest (plain_piece kind) size
+  piece_first = first_is rest some on.more on.is
+
+  more_is : on.more ≡ plain_piece kind ∷ piece_first.0
+  more_is = same_Some on.more (plain_piece kind ∷ piece_first.0) (sym on.is ∙ piece_first.1)
+
+  count_is : count_of on.more ≡ takes_of kind + count_of piece_first.0
+  count_is = ap (λ (xs : List Piece). count_of xs) more_is ∙ count_split (plain_piece kind) piece_first.0
+
+  pub piece_enough : takes_of kind ≤ length left
+  piece_enough = let e = count_is in let h = on.enough in omega (arith, e, h)
+
+  printed_is : printed on.more left ≡ piece_bytes kind left ++ printed piece_first.0 (drop (takes_of kind) left)
+  printed_is = ap (λ (xs : List Piece). printed xs left) more_is ∙ printed_split (plain_piece kind) piece_first.0 left piece_enough
+
+  pub prints_on : (now' : List ℕ) → Added now true (piece_bytes kind left) now' → PrintsOn before now' text (drop size rest) numbers (drop (takes_of kind) left)
+  prints_on now' (is, few) = record {
+    more = piece_first.0;
+    is = piece_first.2;
+    enough = (let e = count_is in let h = on.enough in let d = length-drop (takes_of kind) left in omega (arith, e, h, d));
+    same = λ all all_is.
+        ap (λ (bytes : List ℕ). bytes ++ printed piece_first.0 (drop (takes_of kind) left)) is
+        ∙ append_assoc now (piece_bytes kind left) (printed piece_first.0 (drop (takes_of kind) left))
+        ∙ ap (λ (bytes : List ℕ). now ++ bytes) (sym printed_is)
+        ∙ on.same all all_is;
+    few = few;
+  }
+
+  pub prints_too_much : (now' : List ℕ) → Added now false (piece_bytes kind left) now' → (all : List Piece) → pieces text ≡ Some all → 65536 < length before + length (printed all numbers)
+  prints_too_much now' (is, many) all all_is =
+      let a = ap (λ (bytes : List ℕ). length bytes) (on.same all all_is) in
+      let b = length-append now (printed on.more left) in
+      let c = length-append before (printed all numbers) in
+      let d = ap (λ (bytes : List ℕ). length bytes) printed_is in
+      let f = length-append (piece_bytes kind left) (printed piece_first.0 (drop (takes_of kind) left)) in
+      omega (arith, a, b, c, d, f, many)
+
+pub prints_at_first : (before text : List ℕ) (numbers : List ℤ) (all : List Piece) → pieces text ≡ Some all → count_of all ≤ length numbers → length before ≤ 65536 → PrintsOn before before text text numbers numbers
+prints_at_first before text numbers all is enough few = record {
+  more = all;
+  is = is;
+  enough = enough;
+  same = λ other other_is. ap (λ (xs : List Piece). before ++ printed xs numbers) (same_Some all other (sym is ∙ other_is));
+  few = few;
+}
+
+pub prints_at_end : (before now text : List ℕ) (numbers left : List ℤ) → PrintsOn before now text [] numbers left → (all : List Piece) → pieces text ≡ Some all → Added before true (printed all numbers) now
+prints_at_end before now text numbers left on all is =
+    let none : on.more ≡ [] = same_Some on.more [] (sym on.is) in
+    (sym (append-nil now) ∙ ap (λ (xs : List Piece). now ++ printed xs left) (sym none) ∙ on.same all is, on.few)
+
+-- ---- one piece of a text, as a function reads it
+
+-- what was read of the rest of a text is its first piece
+pub record IsRead (rest shown : List ℕ) (first second : ℕ) (piece : PieceKind) (count : ℕ) : Type 0 where
+  pub whole : shown ≡ rest
+  pub first_is : first ≡ first_byte shown
+  pub second_is : second ≡ second_byte shown
+  pub kind : piece ≡ kind_of first second
+  pub bytes : count ≡ bytes_of first second
+
+module _ (before now text rest shown : List ℕ) (numbers left given : List ℤ) (first second : ℕ) (piece : PieceKind) (count : ℕ) (on : PrintsOn before now text rest numbers left) (some : 0 < length rest) (read : IsRead rest shown first second piece count) (given_is : given ≡ left) where
+  first_same : first ≡ first_byte rest
+  first_same = read.first_is ∙ ap (λ (xs : List ℕ). first_byte xs) read.whole
+
+  second_same : second ≡ second_byte rest
+  second_same = read.second_is ∙ ap (λ (xs : List ℕ). second_byte xs) read.whole
+
+  kind_same : piece ≡ kind_of (first_byte rest) (second_byte rest)
+  kind_same = read.kind ∙ ap (λ (b : ℕ). kind_of b second) first_same ∙ ap (λ (b : ℕ). kind_of (first_byte rest) b) second_same
+
+  count_same : count ≡ bytes_of (first_byte rest) (second_byte rest)
+  count_same = read.bytes ∙ ap (λ (b : ℕ). bytes_of b second) first_same ∙ ap (λ (b : ℕ). bytes_of (first_byte rest) b) second_same
+
+  takes_same : takes_of piece ≡ takes_of (kind_of (first_byte rest) (second_byte rest))
+  takes_same = ap (λ (x : PieceKind). takes_of x) kind_same
+
+  bytes_same : piece_bytes piece given ≡ piece_bytes (kind_of (first_byte rest) (second_byte rest)) left
+  bytes_same = ap (λ (x : PieceKind). piece_bytes x given) kind_same ∙ ap (λ (ns : List ℤ). piece_bytes (kind_of (first_byte rest) (second_byte rest)) ns) given_is
+
+  pub read_enough : takes_of piece ≤ length given
+  read_enough = let h = piece_enough before now text rest numbers left on some in let e = takes_same in let l = ap (λ (ns : List ℤ). length ns) given_is in omega (arith, h, e, l)
+
+  pub read_fits : count ≤ length rest
+  read_fits = let h = (piece_first before now text rest numbers left on some).4 in let e = count_same in omega (arith, h, e)
+
+  pub read_on : (now' : List ℕ) → Added now true (piece_bytes piece given) now' → PrintsOn before now' text (drop count rest) numbers (drop (takes_of piece) left)
+  read_on now' added =
+      let next = prints_on before now text rest numbers left on some now' (added.0 ∙ ap (λ (bytes : List ℕ). now ++ bytes) bytes_same, added.1) in
+      subst (λ (n : ℕ). PrintsOn before now' text (drop n rest) numbers (drop (takes_of piece) left)) (sym count_same)
+      (subst (λ (n : ℕ). PrintsOn before now' text (drop (bytes_of (first_byte rest) (second_byte rest)) rest) numbers (drop n left)) (sym takes_same) next)
+
+  pub read_too_much : (now' : List ℕ) → Added now false (piece_bytes piece given) now' → (all : List Piece) → pieces text ≡ Some all → 65536 < length before + length (printed all numbers)
+  read_too_much now' (same, many) all is =
+      let e = ap (λ (bytes : List ℕ). length bytes) bytes_same in
+      prints_too_much before now text rest numbers left on some now' (same, omega (arith, many, e)) all is

@@ -52,3 +52,11 @@ piece_bytes piece numbers = printed (plain_piece piece ∷ []) numbers
 
 abbrev pub takes_of : PieceKind → ℕ
 takes_of piece = count_of (plain_piece piece ∷ [])
+
+-- in the middle of a text: so much was printed, and the rest of the text is to be printed with the numbers that are left
+pub record PrintsOn (before now text rest : List ℕ) (numbers left : List ℤ) : Type 0 where
+  pub more : List Piece
+  pub is : pieces rest ≡ Some more
+  pub enough : count_of more ≤ length left
+  pub same : (all : List Piece) → pieces text ≡ Some all → now ++ printed more left ≡ before ++ printed all numbers
+  pub few : length now ≤ 65536

@@ -101,3 +101,29 @@ fn print_piece(output: &mut Vec<u8>, piece: PieceKind, numbers: &[i64]) -> bool
         PieceKind::Character => add(output, &[byte_of(numbers[0])]),
     }
 }
+
+/// Prints a text with these numbers, into room that was made before. Where the bytes would be too many, it prints
+/// nothing and answers `false`.
+pub fn print_text(output: &mut Vec<u8>, text: &[u8], numbers: &[i64]) -> bool
+    requires right { (all : List Piece) × (pieces text.now ≡ Some all) × (count_of all ≤ length numbers.now) }
+    requires room { 65536 ≤ vec_capacity output.old }
+    requires few { length output.old.items ≤ 65536 }
+    ensures prints { Prints output.old.items result output.new.items text.now numbers.now }
+    ensures capacity { vec_capacity output.new ≡ vec_capacity output.old }
+{
+    let before = output.len();
+    let mut i = 0;
+    let mut k = 0;
+    'pieces: while i < text.len() {
+        let rest = &text[i..];
+        let (piece, count) = piece_of(first_byte(rest), second_byte(rest));
+        let left = &numbers[k..];
+        if !print_piece(output, piece, left) {
+            output.truncate(before);
+            return false;
+        }
+        i += count;
+        k += takes(piece);
+    }
+    true
+}
