@@ -141,7 +141,6 @@ module _ (p : PlainProgram) (valid : Valid p) (goes : GoesByInstructions) (e : E
       ∙ ap (λ (o : List ℕ). code_demand_of (Stops t) o replies) (sym out)
   call_led (flows.Over n) new h = absurd h
   call_led (flows.Ask site) new h = absurd h
-  call_led (flows.Show format) new h = absurd h
 
   -- ---- there is room again
 
@@ -168,6 +167,7 @@ module _ (p : PlainProgram) (valid : Valid p) (goes : GoesByInstructions) (e : E
         frames = omega (arith, room, roomy.frames);
         total = omega (arith, roomy.total);
         limit = fits.cells;
+        output = roomy.output;
         sized = (omega (arith, l, own), omega (arith, roomy.total), subst (AreSized roomy.most e.memory.frames (length e.memory.frame)) t roomy.sized);
         cells = omega (arith, l, size, roomy.cells);
       }
@@ -189,4 +189,3 @@ module _ (p : PlainProgram) (valid : Valid p) (goes : GoesByInstructions) (e : E
   call_runs (flows.Stop t) new h runs low high can = tt
   call_runs (flows.Over n) new h runs low high can = tt
   call_runs (flows.Ask site) new h runs low high can = absurd h
-  call_runs (flows.Show format) new h runs low high can = absurd h

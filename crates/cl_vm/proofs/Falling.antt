@@ -48,7 +48,7 @@ module _ (p : PlainProgram) (valid : Valid p) (e : Engine) (i : Instr) (here : s
   bit_is b is = ap (λ o. if is_tick o then 0 else 1) here ∙ ap (λ t. if t then 0 else 1) is
 
   -- on in the same function, with as many ticks
-  on_falls : is_tick (Some i) ≡ false → (place : ℕ) → ((place ≤ e.place) → slice_get p.code place ≡ Some Tick) → length e.memory.frames ≤ 255 → distance (length p.code) e.ticks (tick_bit p place) (length e.memory.frames) place < distance_of p e
+  pub on_falls : is_tick (Some i) ≡ false → (place : ℕ) → ((place ≤ e.place) → slice_get p.code place ≡ Some Tick) → length e.memory.frames ≤ 255 → distance (length p.code) e.ticks (tick_bit p place) (length e.memory.frames) place < distance_of p e
   on_falls other place back few =
       let before = bit_is false other in
       let w = within in
@@ -89,7 +89,6 @@ module _ (p : PlainProgram) (valid : Valid p) (e : Engine) (i : Instr) (here : s
   acts_falls other few (flows.Stop t) new h = tt
   acts_falls other few (flows.Over n) new h = tt
   acts_falls other few (flows.Ask site) new h = tt
-  acts_falls other few (flows.Show format) new h = tt
 
   tick_counts : (new : Engine) → 0 < e.ticks → new.ticks ≡ e.ticks - 1 → length new.memory.frames ≤ 255 → distance_of p new < distance_of p e
   tick_counts new some less few =
@@ -101,7 +100,6 @@ module _ (p : PlainProgram) (valid : Valid p) (e : Engine) (i : Instr) (here : s
   tick_falls few (flows.Stop t) new h = tt
   tick_falls few (flows.Over n) new h = tt
   tick_falls few (flows.Ask site) new h = tt
-  tick_falls few (flows.Show format) new h = tt
 
   pub call_falls : (f : PlainFunction) (flow : Flow) (new : Engine) → Calls f past flow new → Falls p e flow new
   call_falls f flows.On new (h, is) =
@@ -110,7 +108,6 @@ module _ (p : PlainProgram) (valid : Valid p) (e : Engine) (i : Instr) (here : s
   call_falls f (flows.Stop t) new h = tt
   call_falls f (flows.Over n) new h = tt
   call_falls f (flows.Ask site) new h = tt
-  call_falls f (flows.Show format) new h = tt
 
   leave_falls : is_tick (Some i) ≡ false → (new : Engine) → new.ticks ≡ e.ticks → suc (length new.memory.frames) ≡ length e.memory.frames → length e.memory.frames ≤ 255 → distance_of p new < distance_of p e
   leave_falls other new ticks less few =
@@ -133,4 +130,3 @@ module _ (p : PlainProgram) (valid : Valid p) (e : Engine) (i : Instr) (here : s
   return_falls other few (flows.Stop t) new h = tt
   return_falls other few (flows.Over n) new h = tt
   return_falls other few (flows.Ask site) new h = tt
-  return_falls other few (flows.Show format) new h = tt

@@ -4,5 +4,6 @@ pub mod Needs
 pub mod Moves
 pub mod Entering
 pub mod Falling
-pub mod Stepping
 pub mod Pieces
+pub mod Showing
+pub mod Stepping

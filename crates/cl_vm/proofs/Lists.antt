@@ -6,7 +6,7 @@ use Rattle.std.proofs.lemmas.List.{take-append-drop, reverse-reverse, reverse-ap
 use Rattle.std.specs.Global.{Vec}
 use Rattle.std.proofs.Math.Seq.{take-set-lt, drop-append_seam, drop-length, take-length}
 use Rattle.cl_code.specs.Machine.{Frame, cleared}
-use Rattle.cl_vm.specs.Memory.{Memory, with_pushed, with_local, with_global, with_cleared, with_left, with_entered}
+use Rattle.cl_vm.specs.Memory.{Memory, with_pushed, with_local, with_global, with_cleared, with_left, with_entered, with_dropped}
 use Rattle.cl_vm.specs.MemoryViews.{frames_of, memory_of, Nested, IsLaidOut, Left}
 use Rattle.cl_vm.specs.declared.memory.Waiting.{Waiting}
 use Rattle.cl_vm.specs.declared.memory.Memory.TheInside.{Inside}
@@ -217,3 +217,52 @@ module _ (m : Inside) (place claimed count size : ℕ) (waiting : Vec Waiting) (
       (omega (arith, n_cap, n_fits, n_ok, enough, stack_long, mine_long, laid.floor))
       (omega (arith, c_len, c_cap, args_long, n_ok, c_fits, smaller, roomy, enough, stack_long, mine_long))
       (omega (arith, w_len, w_cap, w_fits))
+
+-- ---- the topmost numbers
+
+module _ (m : Inside) (count : ℕ) (laid : IsLaidOut m) (enough : count ≤ length (memory_of m).stack) where
+  abbrev own : List ℤ
+  own = drop m.floor m.numbers.items
+
+  abbrev from : ℕ
+  from = vec_len m.numbers - count
+
+  own_long : length own ≡ length m.numbers.items - m.floor
+  own_long = length-drop m.floor m.numbers.items
+
+  stack_is_long : length (memory_of m).stack ≡ length own
+  stack_is_long = length-reverse own
+
+  numbers_ok : vec_len m.numbers ≡ length m.numbers.items
+  numbers_ok = m.numbers.ok.0
+
+  kept_and_taken : (length own - count) + count ≡ length own
+  kept_and_taken = let e = stack_is_long in omega (arith, enough, e)
+
+  from_is : m.floor + (length own - count) ≡ from
+  from_is = let e = stack_is_long in let o = own_long in let n = numbers_ok in omega (arith, enough, e, o, n, laid.floor)
+
+  pub top_is : drop from m.numbers.items ≡ reverse (take count (memory_of m).stack)
+  top_is =
+      ap (λ (n : ℕ). drop n m.numbers.items) (sym from_is)
+      ∙ sym (drop-drop (length own - count) m.floor m.numbers.items)
+      ∙ sym (reverse-reverse (drop (length own - count) own))
+      ∙ ap (λ (xs : List ℤ). reverse xs) (sym (taken_reverse own (length own - count) count kept_and_taken))
+
+  pub top_kept : reverse (drop m.floor (take from m.numbers.items)) ≡ drop count (memory_of m).stack
+  top_kept =
+      ap (λ (n : ℕ). reverse (drop m.floor (take n m.numbers.items))) (sym from_is)
+      ∙ ap (λ (xs : List ℤ). reverse xs) (drop-take m.floor (length own - count) m.numbers.items)
+      ∙ sym (dropped_reverse own (length own - count) count kept_and_taken)
+
+  pub top_dropped : (numbers : Vec ℤ) → numbers.items ≡ take from m.numbers.items → vec_capacity numbers ≡ vec_capacity m.numbers → memory_of (record m { numbers = numbers }) ≡ with_dropped count (memory_of m)
+  top_dropped numbers is cap =
+      let f = from_is in
+      same_memory (memory_of (record m { numbers = numbers })) (with_dropped count (memory_of m))
+      refl
+      refl
+      (ap (λ (xs : List ℤ). reverse (drop m.floor xs)) is ∙ top_kept)
+      (ap (λ (xs : List ℤ). frames_of (reverse m.waiting.items) (take m.base m.cells.items) xs) (ap (λ (xs : List ℤ). take m.floor xs) is ∙ take-take m.floor from m.numbers.items (omega (arith, f))))
+      (ap (λ (n : ℕ). n - m.floor) cap)
+      refl
+      refl

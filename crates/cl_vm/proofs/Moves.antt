@@ -1,6 +1,7 @@
 -- What an instruction did leads on: as much is demanded, and all that holds of an engine holds again.
 use Rattle.std.proofs.Common.{◌≡◌, ℕ, zero, suc, ◌+◌, ◌-◌, ◌*◌, ◌<◌, ◌≤◌, Bool, true, false, List, [], ◌∷◌, ◌++◌, length, Option, Some, None, refl, sym, ap, ◌∙◌, subst, arith, take, drop}
-use Rattle.std.specs.Prelude.{ℤ, slice_get, reverse, if◌then◌else◌}
+use Rattle.std.specs.Prelude.{ℤ, slice_get, reverse, vec_capacity, if◌then◌else◌}
+use Rattle.std.specs.Global.{Vec}
 use Rattle.cl_value.specs.declared.process.Trap.{Trap}
 use Rattle.cl_value.specs.Plain.{PlainReply}
 use Rattle.cl_model.specs.Doing.{Steps, Gives, Stops, State, then_do, ◌>>=◌, ◌>>◌, pure, tick, counted, release, variables, set_variables}
@@ -43,7 +44,7 @@ module _ (p : PlainProgram) (valid : Valid p) (goes : GoesByInstructions) (e : E
       ap (λ (at : ℕ). demanded p e.depth behind e.output.items replies e.memory.frames at stack (state_of new)) (sym is_place)
       ∙ ap (λ (st : Stack). demanded p e.depth behind e.output.items replies e.memory.frames new.place st (state_of new)) (sym is_stack)
       ∙ ap (λ (fs : List Frame). demanded p e.depth behind e.output.items replies fs new.place new.memory.stack (state_of new)) (sym near.frames)
-      ∙ ap (λ (out : List ℕ). demanded p e.depth behind out replies new.memory.frames new.place new.memory.stack (state_of new)) (sym near.output)
+      ∙ ap (λ (out : List ℕ). demanded p e.depth behind out replies new.memory.frames new.place new.memory.stack (state_of new)) (ap (λ (v : Vec ℕ). v.items) (sym near.output))
       ∙ ap (λ (depth : ℕ). demanded p depth behind new.output.items replies new.memory.frames new.place new.memory.stack (state_of new)) (sym near.depth)
 
   by_way : (behind : Behind) (replies : List PlainReply) (way : Way) (new : Engine) → StandsBy way stepped_past new → IsNear stepped_past new → behind_it behind replies (Gives (way, state_of new)) ≡ onward p behind new replies
@@ -58,10 +59,9 @@ module _ (p : PlainProgram) (valid : Valid p) (goes : GoesByInstructions) (e : E
   pub acts_led : (flow : Flow) (new : Engine) → ActsAs (effect p e.depth i) stepped_past flow new → Led p e flow new
   unfolding then_do
   acts_led flows.On new (way, does, stands, near) = λ behind replies. opened behind replies ∙ ap (behind_it behind replies) does ∙ by_way behind replies way new stands near
-  acts_led (flows.Stop t) new (does, near) = λ behind replies. opened behind replies ∙ ap (behind_it behind replies) does ∙ ap (λ (out : List ℕ). code_demand_of (Stops t) out replies) (sym near.output)
+  acts_led (flows.Stop t) new (does, near) = λ behind replies. opened behind replies ∙ ap (behind_it behind replies) does ∙ ap (λ (v : Vec ℕ). code_demand_of (Stops t) v.items replies) (sym near.output)
   acts_led (flows.Over n) new h = absurd h
   acts_led (flows.Ask site) new h = absurd h
-  acts_led (flows.Show format) new h = absurd h
 
   -- ---- it may be there
 
@@ -97,6 +97,7 @@ module _ (p : PlainProgram) (valid : Valid p) (goes : GoesByInstructions) (e : E
         frames = ap (λ (n : ℕ). n + length new.memory.frames) frame_room ∙ ap (λ (fs : List Frame). e.memory.frame_room + length fs) near.frames ∙ roomy.frames;
         total = omega (arith, roomy.total, globals, near.cells);
         limit = omega (arith, roomy.limit, near.cells);
+        output = subst (λ (v : Vec ℕ). (65536 ≤ vec_capacity v) × (length v.items ≤ 65536)) (sym near.output) roomy.output;
         sized = rw (near.frames, near.cells, frame, globals) roomy.sized;
         cells = ap (λ (fs : List Frame). new.memory.cell_room + (length new.memory.globals + (length new.memory.frame + celled fs))) near.frames ∙ omega (arith, cell_room, frame, globals, roomy.cells);
       }
@@ -120,7 +121,6 @@ module _ (p : PlainProgram) (valid : Valid p) (goes : GoesByInstructions) (e : E
   acts_runs (flows.Stop t) new h runs = tt
   acts_runs (flows.Over n) new h runs = tt
   acts_runs (flows.Ask site) new h runs = absurd h
-  acts_runs (flows.Show format) new h runs = absurd h
 
 -- ---- ticks
 
@@ -154,7 +154,6 @@ module _ (p : PlainProgram) (valid : Valid p) (goes : GoesByInstructions) (e : E
       ∙ ap (λ (o : List ℕ). code_demand_of (Stops t) o replies) (sym out)
   tick_led (flows.Over n) new h = absurd h
   tick_led (flows.Ask site) new h = absurd h
-  tick_led (flows.Show format) new h = absurd h
 
   ticked_roomy : IsRoomy p e → IsRoomy p ticked_once
   ticked_roomy roomy = record {
@@ -167,6 +166,7 @@ module _ (p : PlainProgram) (valid : Valid p) (goes : GoesByInstructions) (e : E
     frames = roomy.frames;
     total = roomy.total;
     limit = roomy.limit;
+    output = roomy.output;
     sized = roomy.sized;
     cells = roomy.cells;
   }
@@ -186,7 +186,6 @@ module _ (p : PlainProgram) (valid : Valid p) (goes : GoesByInstructions) (e : E
   tick_runs (flows.Stop t) new h runs = tt
   tick_runs (flows.Over n) new h runs = tt
   tick_runs (flows.Ask site) new h runs = absurd h
-  tick_runs (flows.Show format) new h runs = absurd h
 
 -- ---- a function is left
 
@@ -232,6 +231,7 @@ module _ (p : PlainProgram) (valid : Valid p) (goes : GoesByInstructions) (mid :
         frames = omega (arith, count);
         total = omega (arith, sized.1, roomy.total);
         limit = omega (arith, roomy.limit);
+        output = roomy.output;
         sized = subst (AreSized roomy.most frames (length frame.cells)) rest sized.2;
         cells = omega (arith, cells);
       }
@@ -255,11 +255,9 @@ module _ (p : PlainProgram) (valid : Valid p) (goes : GoesByInstructions) (e : E
   returns_led (flows.Over n) new (was, is) = subst (λ (x : Engine). Led p x (flows.Over n) new) (sym (before n new was)) (over_led p valid goes new n e.place here is)
   returns_led (flows.Stop t) new h = absurd h
   returns_led (flows.Ask site) new h = absurd h
-  returns_led (flows.Show format) new h = absurd h
 
   pub returns_runs : (flow : Flow) (new : Engine) → Returns (record e { place = suc e.place }) flow new → Runs p e → RunsOn p flow new
   returns_runs flows.On new (n, mid, frame, frames, was, is, to) runs = subst (λ (x : Engine). Runs p x) (sym to) (return_runs p valid goes mid n e.place here frame frames is (subst (λ (x : Engine). Runs p x) (before n mid was) runs))
   returns_runs (flows.Over n) new h runs = tt
   returns_runs (flows.Stop t) new h runs = tt
   returns_runs (flows.Ask site) new h runs = absurd h
-  returns_runs (flows.Show format) new h runs = absurd h

@@ -8,15 +8,16 @@ use Rattle.cl_model.specs.Doing.{Steps, Gives, State, Checked, then_do, ◌>>=�
 use Rattle.cl_sig.specs.Fields.{all_below}
 use Rattle.cl_code.specs.Plain.{PlainFunction, PlainProgram}
 use Rattle.cl_code.specs.Reach.{function_at, pops, pushes, height_behind}
+use Rattle.cl_code.specs.Formats.{Piece, pieces, count_of, pieces_or_none, count_or_none}
 use Rattle.cl_code.specs.Rules.{has, frame_size, instruction_reaches, may_end, rule_1, rule_2, rule_3, rule_4, rule_5, rule_6, rule_7, rule_8, keeps_rules}
 use Rattle.cl_code.specs.Valid.{Valid}
 use Rattle.cl_code.specs.Laws.{HeightsAreMet, StacksAreLow, GoesByInstructions}
 use Rattle.cl_code.specs.Following.{follows}
 use Rattle.cl_code.specs.Positions.{Position, Reached}
 use Rattle.cl_code.specs.Process.{Wrong, code_demand_of}
-use Rattle.cl_code.specs.Machine.{Cells, Does, Stack, Frame, Way, Lost, Where, Local, Global, cells_at, loaded, index_of, effect, follow, loads, puts, stores, loads_at, stores_at, clears, calls, machine}
+use Rattle.cl_code.specs.Machine.{Cells, Does, Stack, Frame, Way, Lost, Where, Local, Global, cells_at, loaded, index_of, effect, follow, loads, puts, stores, loads_at, stores_at, clears, calls, prints, machine}
 use Rattle.cl_code.specs.declared.instr.Instr.{Instr}
-use Rattle.cl_code.specs.declared.instr.Instr.TheVariants.{LoadLocal, LoadGlobal, StoreLocal, StoreGlobal, LoadLocalAt, LoadGlobalAt, StoreLocalAt, StoreGlobalAt, Clear, Jump, Return, Call}
+use Rattle.cl_code.specs.declared.instr.Instr.TheVariants.{LoadLocal, LoadGlobal, StoreLocal, StoreGlobal, LoadLocalAt, LoadGlobalAt, StoreLocalAt, StoreGlobalAt, Clear, Jump, Return, Call, Print}
 use Rattle.cl_code.proofs.Fine.{below}
 use Rattle.cl_code.proofs.Flow.{At, enough, on_next, parameters_fit}
 use Rattle.cl_value.specs.declared.process.Trap.TheVariants.{StepLimit, CellLimit, CallDepth}
@@ -191,6 +192,21 @@ module _ (p : PlainProgram) (valid : Valid p) (goes : GoesByInstructions) (e : E
   found_or_lost k here (Some f) is = (f, is)
   found_or_lost k here None is = absurd (lost p valid goes e safe (Call k) here (state_of e) (ap (λ o. calls p e.depth k o e.memory.stack (state_of e)) is))
 
+  parts_or_lost : (format : ℕ) → slice_get p.code e.place ≡ Some (Print format) → (o : Option (List Piece)) → pieces_or_none (slice_get p.formats format) ≡ o → (all : List Piece) × (pieces_or_none (slice_get p.formats format) ≡ Some all)
+  unfolding effect prints pure
+  parts_or_lost format here (Some all) is = (all, is)
+  parts_or_lost format here None is = absurd (lost p valid goes e safe (Print format) here (state_of e) (ap (λ o. prints o e.memory.stack (state_of e)) is))
+
+  text_of_parts : (o : Option (List ℕ)) (all : List Piece) → pieces_or_none o ≡ Some all → (text : List ℕ) × (o ≡ Some text) × (pieces text ≡ Some all)
+  text_of_parts None all h = absurd cc
+  text_of_parts (Some text) all h = (text, refl, h)
+
+  pub text_there : (format : ℕ) → slice_get p.code e.place ≡ Some (Print format) → (text : List ℕ) × (slice_get p.formats format ≡ Some text) × (all : List Piece) × (pieces text ≡ Some all)
+  text_there format here =
+      let (all, is) = parts_or_lost format here (pieces_or_none (slice_get p.formats format)) refl in
+      let (text, found, parts) = text_of_parts (slice_get p.formats format) all is in
+      (text, found, all, parts)
+
   pub called_function : (k : ℕ) → slice_get p.code e.place ≡ Some (Call k) → (f : PlainFunction) × (slice_get p.functions k ≡ Some f)
   called_function k here = found_or_lost k here (slice_get p.functions k) refl
 
@@ -234,11 +250,23 @@ module _ (p : PlainProgram) (valid : Valid p) (e : Engine) (roomy : IsRoomy p e)
       let own = roomy.temporaries k f is in
       (parameters_fit p valid.rules k f is (omega (arith, fits.cells)), omega (arith, low, times, more, own, roomy.cells, roomy.total, fits.cells), omega (arith, fits.depth, roomy.frames))
 
-pub function_there : (p : PlainProgram) → Valid p → GoesByInstructions → (e : Engine) → Runs p e → (i : Instr) → slice_get p.code e.place ≡ Some i → HasFunction p i e
-function_there p valid goes e runs (Call k) here =
+pub function_there : (p : PlainProgram) → Valid p → HeightsAreMet → StacksAreLow → GoesByInstructions → (e : Engine) → Runs p e → (i : Instr) → slice_get p.code e.place ≡ Some i → HasFunction p i e
+function_there p valid heights stacks goes e runs (Call k) here =
     let (f, is) = called_function p valid goes e runs.safe k here in
     record { function = f; is = is; roomy = room_for_call p valid e runs.roomy k f is }
-function_there p valid goes e runs i here = tt
+function_there p valid heights stacks goes e runs (Print format) here =
+    let (text, is, all, parts) = text_there p valid goes e runs.safe format here in
+    let operands = operands_there p valid heights stacks e.depth (position_of e) runs.reached (Print format) here in
+    record {
+      text = text;
+      is = is;
+      all = all;
+      parts = parts;
+      enough = subst (λ o. count_or_none o ≤ length e.memory.stack) (ap pieces_or_none is ∙ parts) operands;
+      room = runs.roomy.output.0;
+      few = runs.roomy.output.1;
+    }
+function_there p valid heights stacks goes e runs i here = tt
 
 -- ---- all that is needed
 
@@ -249,7 +277,7 @@ needs_met p valid heights stacks goes e runs i here =
       operands = operands;
       space = space_there p valid heights stacks e runs.reached runs.roomy i here;
       cells = cells_there p valid goes e runs.safe i here operands;
-      function = function_there p valid goes e runs i here;
+      function = function_there p valid heights stacks goes e runs i here;
       limit = runs.roomy.limit;
     }
 

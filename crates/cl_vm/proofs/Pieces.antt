@@ -4,7 +4,7 @@ use Rattle.std.specs.Fmt.{signed_decimal}
 use Rattle.std.specs.Prelude.{ℤ, ◌==◌, if◌then◌else◌, option_map}
 use Rattle.std.proofs.lemmas.Option.{same_Some}
 use Rattle.cl_code.specs.Formats.{Piece, Byte, Decimal, Character, pieces, count_of, printed}
-use Rattle.cl_vm.specs.Printing.{plain_piece, kind_of, bytes_of, first_byte, second_byte, IsFirst, PrintsOn, Added, piece_bytes, takes_of}
+use Rattle.cl_vm.specs.Printing.{plain_piece, kind_of, bytes_of, first_byte, second_byte, IsFirst, PrintsOn, CountsOn, Added, piece_bytes, takes_of}
 use Rattle.cl_vm.specs.declared.output.PieceKind.{PieceKind}
 use Rattle.cl_vm.specs.declared.output.PieceKind.TheVariants as kinds
 
@@ -200,3 +200,49 @@ module _ (before now text rest shown : List ℕ) (numbers left given : List ℤ)
   read_too_much now' (same, many) all is =
       let e = ap (λ (bytes : List ℕ). length bytes) bytes_same in
       prints_too_much before now text rest numbers left on some now' (same, omega (arith, many, e)) all is
+
+-- ---- counting
+
+takes_few : (x : PieceKind) → takes_of x ≤ 1
+takes_few (kinds.Byte b) = omega arith
+takes_few kinds.Decimal = omega arith
+takes_few kinds.Character = omega arith
+
+-- a piece more was counted
+pub record CountedOn (text rest : List ℕ) (now count taken : ℕ) : Type 0 where
+  pub on : CountsOn text (drop count rest) (now + taken)
+  pub some : 0 < count
+  pub fits : count ≤ length rest
+  pub few : taken ≤ 1
+
+module _ (text rest shown : List ℕ) (now first second : ℕ) (piece : PieceKind) (count taken : ℕ) (on : CountsOn text rest now) (some : 0 < length rest) (read : IsRead rest shown first second piece count) (taken_is : taken ≡ takes_of piece) where
+  abbrev kind_there : PieceKind
+  kind_there = kind_of (first_byte rest) (second_byte rest)
+
+  abbrev size_there : ℕ
+  size_there = bytes_of (first_byte rest) (second_byte rest)
+
+  kind_read : piece ≡ kind_there
+  kind_read = read.kind ∙ ap (λ (b : ℕ). kind_of b second) (read.first_is ∙ ap (λ (xs : List ℕ). first_byte xs) read.whole) ∙ ap (λ (b : ℕ). kind_of (first_byte rest) b) (read.second_is ∙ ap (λ (xs : List ℕ). second_byte xs) read.whole)
+
+  size_read : count ≡ size_there
+  size_read = read.bytes ∙ ap (λ (b : ℕ). bytes_of b second) (read.first_is ∙ ap (λ (xs : List ℕ). first_byte xs) read.whole) ∙ ap (λ (b : ℕ). bytes_of (first_byte rest) b) (read.second_is ∙ ap (λ (xs : List ℕ). second_byte xs) read.whole)
+
+  pub counted_on : CountedOn text rest now count taken
+  counted_on =
+      let first_piece : IsFirst rest (plain_piece kind_there) size_there = first_is rest some on.more on.is in
+      let more_is = same_Some on.more (plain_piece kind_there ∷ first_piece.0) (sym on.is ∙ first_piece.1) in
+      let split = ap (λ (xs : List Piece). count_of xs) more_is ∙ count_split (plain_piece kind_there) first_piece.0 in
+      let takes : taken ≡ takes_of kind_there = taken_is ∙ ap (λ (x : PieceKind). takes_of x) kind_read in
+      let few = takes_few kind_there in
+      let size = size_read in
+      record {
+        on = record {
+          more = first_piece.0;
+          is = ap (λ (n : ℕ). pieces (drop n rest)) size ∙ first_piece.2;
+          same = λ all is. let e = on.same all is in omega (arith, e, split, takes);
+        };
+        some = omega (arith, size, first_piece.3);
+        fits = omega (arith, size, first_piece.4);
+        few = omega (arith, few, takes);
+      }

@@ -16,6 +16,7 @@ use Rattle.cl_vm.specs.declared.engine.Flow.TheVariants as flows
 use Rattle.cl_vm.proofs.Needs.{low_enough, stack_low, needs_met}
 use Rattle.cl_vm.proofs.Moves.{acts_led, acts_runs, tick_led, tick_runs, returns_led, returns_runs}
 use Rattle.cl_vm.proofs.Falling.{acts_falls, tick_falls, call_falls, return_falls}
+use Rattle.cl_vm.proofs.Showing.{shown_led, shown_runs, shown_falls}
 use Rattle.cl_vm.proofs.Entering.{call_led, call_runs}
 
 module _ (p : PlainProgram) (valid : Valid p) (heights : HeightsAreMet) (stacks : StacksAreLow) (goes : GoesByInstructions) (e : Engine) (runs : Runs p e) where
@@ -42,9 +43,11 @@ module _ (p : PlainProgram) (valid : Valid p) (heights : HeightsAreMet) (stacks 
   stepped Tick here flow new acted = record { led = tick_led p valid goes e here flow new acted; runs = tick_runs p valid goes e here flow new acted runs; falls = tick_falls p valid e Tick here few flow new acted }
   stepped (Call k) here flow new acted = called k here flow new acted
   stepped Return here flow new acted = record { led = returns_led p valid goes e here flow new acted; runs = returns_runs p valid goes e here flow new acted runs; falls = return_falls p valid e Return here refl few flow new acted }
-  stepped (Print format) here flow new (is, to) =
-      let same : new ≡ e = to ∙ back in
-      subst (λ (f : Flow). Stepped p e f new) (sym is) (record { led = (same, here); runs = subst (λ (x : Engine). Runs p x) (sym same) runs; falls = tt })
+  stepped (Print format) here flow new acted = record {
+    led = shown_led p valid goes e format here acted.text acted.is acted.all acted.parts acted.enough flow new acted.shown;
+    runs = shown_runs p valid goes e format here acted.text acted.is acted.all acted.parts acted.enough flow new acted.shown runs;
+    falls = shown_falls p valid goes e format here acted.text acted.is acted.all acted.parts acted.enough few flow new acted.shown;
+  }
   stepped (Perform site) here flow new (is, to) =
       let same : new ≡ e = to ∙ back in
       subst (λ (f : Flow). Stepped p e f new) (sym is) (record { led = (same, here); runs = subst (λ (x : Engine). Runs p x) (sym same) runs; falls = tt })

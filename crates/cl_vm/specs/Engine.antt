@@ -1,11 +1,12 @@
 -- What an engine stands for: what its process does from here on. (This project.)
-use Rattle.std.specs.Prelude.{◌≡◌, ℕ, suc, ◌+◌, ◌-◌, ◌<◌, ◌==◌, nat_lt, if◌then◌else◌, List, [], ◌∷◌, length, slice_get, Option, Some, None, ℤ, Ok, Err}
+use Rattle.std.specs.Prelude.{◌≡◌, ℕ, suc, ◌+◌, ◌-◌, ◌<◌, ◌≤◌, ◌==◌, nat_lt, if◌then◌else◌, List, [], ◌∷◌, ◌++◌, length, take, drop, reverse, vec_capacity, slice_get, Option, Some, None, ℤ, Ok, Err}
 use Rattle.cl_value.specs.declared.value.Value.{Value}
 use Rattle.cl_value.specs.declared.process.Trap.{Trap}
-use Rattle.cl_value.specs.declared.process.Trap.TheVariants.{StepLimit, CellLimit, CallDepth}
+use Rattle.cl_value.specs.declared.process.Trap.TheVariants.{StepLimit, CellLimit, CallDepth, OutputLimit}
 use Rattle.cl_value.specs.Plain.{PlainReply}
 use Rattle.cl_model.specs.Doing.{Steps, Gives, Stops, State, Checked, ◌>>=◌}
 use Rattle.cl_code.specs.Plain.{PlainFunction, PlainProgram}
+use Rattle.cl_code.specs.Formats.{Piece, pieces, count_of, printed}
 use Rattle.cl_code.specs.Rules.{frame_size}
 use Rattle.cl_code.specs.declared.instr.Instr.TheVariants.{Perform, Print, Tick, Call, Return}
 use Rattle.cl_code.specs.declared.instr.Instr.{Instr}
@@ -49,7 +50,7 @@ Gave (Err t) old flow new = (flow ≡ flows.Stop t) × (new ≡ old)
 -- only its stack, its cells and its place may be others
 pub record IsNear (old new : Engine) : Type 0 where
   pub frames : new.memory.frames ≡ old.memory.frames
-  pub output : new.output.items ≡ old.output.items
+  pub output : new.output ≡ old.output
   pub ticks : new.ticks ≡ old.ticks
   pub depth : new.depth ≡ old.depth
   pub cells : new.cells ≡ old.cells
@@ -73,7 +74,6 @@ Led p old flows.On new = (behind : Behind) (replies : List PlainReply) → onwar
 Led p old (flows.Stop t) new = (behind : Behind) (replies : List PlainReply) → onward p behind old replies ≡ code_demand_of (Stops t) new.output.items replies
 Led p old (flows.Over n) new = (behind : Behind) (replies : List PlainReply) → onward p behind old replies ≡ code_demand_of (behind (Some n) (state_of new)) new.output.items replies
 Led p old (flows.Ask site) new = (new ≡ old) × (slice_get p.code old.place ≡ Some (Perform site))
-Led p old (flows.Show format) new = (new ≡ old) × (slice_get p.code old.place ≡ Some (Print format))
 
 -- ---- calls and ticks
 
@@ -120,11 +120,26 @@ Returns old flows.On new = (n : ℤ) × (mid : Engine) × (frame : Frame) × (fr
 Returns old (flows.Over n) new = (old ≡ with_number n new) × (new.memory.frames ≡ [])
 Returns old _ new = ⊥
 
+-- bytes were printed, and these numbers are left
+abbrev pub Shown : List ℕ → List ℤ → Engine → Flow → Engine → Type 0
+Shown bytes rest old flows.On new = (new.output.items ≡ old.output.items ++ bytes) × (length new.output.items ≤ 65536) × (vec_capacity new.output ≡ vec_capacity old.output) × (new ≡ record old { memory = record old.memory { stack = rest }; output = new.output })
+Shown bytes rest old (flows.Stop t) new = (t ≡ OutputLimit) × (65536 < length old.output.items + length bytes) × (new.output.items ≡ old.output.items)
+Shown bytes rest old _ new = ⊥
+
+-- the text of this format, in pieces
+pub record Shows (p : PlainProgram) (format : ℕ) (old : Engine) (flow : Flow) (new : Engine) : Type 0 where
+  pub text : List ℕ
+  pub is : slice_get p.formats format ≡ Some text
+  pub all : List Piece
+  pub parts : pieces text ≡ Some all
+  pub enough : count_of all ≤ length old.memory.stack
+  pub shown : Shown (printed all (reverse (take (count_of all) old.memory.stack))) (drop (count_of all) old.memory.stack) old flow new
+
 -- what an instruction does, behind which the old one stands
 abbrev pub Acted : PlainProgram → Instr → Engine → Flow → Engine → Type 0
 Acted p Tick old flow new = Ticks old flow new
 Acted p (Call k) old flow new = (f : PlainFunction) × (slice_get p.functions k ≡ Some f) × Calls f old flow new
 Acted p Return old flow new = Returns old flow new
-Acted p (Print format) old flow new = (flow ≡ flows.Show format) × (new ≡ record old { place = old.place - 1 })
+Acted p (Print format) old flow new = Shows p format old flow new
 Acted p (Perform site) old flow new = (flow ≡ flows.Ask site) × (new ≡ record old { place = old.place - 1 })
 Acted p i old flow new = ActsAs (effect p old.depth i) old flow new

@@ -18,6 +18,10 @@ pub record Memory : Type 0 where
 abbrev pub with_pushed : ℤ → Memory → Memory
 with_pushed n m = record m { stack = n ∷ m.stack }
 
+-- so many numbers are dropped
+abbrev pub with_dropped : ℕ → Memory → Memory
+with_dropped count m = record m { stack = drop count m.stack }
+
 abbrev pub with_local : ℕ → ℤ → Memory → Memory
 with_local k n m = record m { frame = slice_set m.frame k n }
 

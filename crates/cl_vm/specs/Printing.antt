@@ -60,3 +60,9 @@ pub record PrintsOn (before now text rest : List ℕ) (numbers left : List ℤ) 
   pub enough : count_of more ≤ length left
   pub same : (all : List Piece) → pieces text ≡ Some all → now ++ printed more left ≡ before ++ printed all numbers
   pub few : length now ≤ 65536
+
+-- in the middle of a text: so many numbers were counted
+pub record CountsOn (text rest : List ℕ) (now : ℕ) : Type 0 where
+  pub more : List Piece
+  pub is : pieces rest ≡ Some more
+  pub same : (all : List Piece) → pieces text ≡ Some all → now + count_of more ≡ count_of all

@@ -1,5 +1,5 @@
 -- What holds of an engine between two instructions. (This project.)
-use Rattle.std.specs.Prelude.{◌≡◌, if◌then◌else◌, suc, ℕ, ℤ, Option, Ok, ◌+◌, ◌-◌, ◌*◌, ◌≤◌, ◌<◌, List, [], ◌∷◌, length, slice_get, Some, None}
+use Rattle.std.specs.Prelude.{◌≡◌, if◌then◌else◌, suc, ℕ, ℤ, Option, Ok, ◌+◌, ◌-◌, ◌*◌, ◌≤◌, ◌<◌, List, [], ◌∷◌, length, vec_capacity, slice_get, Some, None}
 use Rattle.cl_value.specs.Plain.{PlainReply}
 use Rattle.cl_model.specs.Doing.{Gives, State}
 use Rattle.cl_code.specs.Plain.{PlainFunction, PlainProgram}
@@ -8,7 +8,8 @@ use Rattle.cl_code.specs.Positions.{Caller, Position, Reached}
 use Rattle.cl_code.specs.Process.{Wrong}
 use Rattle.cl_code.specs.Reach.{pops, pushes}
 use Rattle.cl_code.specs.declared.instr.Instr.{Instr}
-use Rattle.cl_code.specs.declared.instr.Instr.TheVariants.{LoadLocal, LoadGlobal, StoreLocal, StoreGlobal, LoadLocalAt, LoadGlobalAt, StoreLocalAt, StoreGlobalAt, Clear, Call}
+use Rattle.cl_code.specs.declared.instr.Instr.TheVariants.{LoadLocal, LoadGlobal, StoreLocal, StoreGlobal, LoadLocalAt, LoadGlobalAt, StoreLocalAt, StoreGlobalAt, Clear, Call, Print}
+use Rattle.cl_code.specs.Formats.{Piece, pieces, count_of}
 use Rattle.cl_code.specs.Rules.{frame_size, is_tick}
 use Rattle.cl_vm.specs.Engine.{Behind, onward, call_traps, Led}
 use Rattle.cl_vm.specs.declared.engine.Engine.{Engine}
@@ -63,6 +64,7 @@ pub record IsRoomy (p : PlainProgram) (e : Engine) : Type 0 where
   pub total : length e.memory.globals ≤ e.cells
   pub limit : e.cells ≤ 65536
   pub sized : AreSized most e.memory.frames (length e.memory.frame) (e.cells - length e.memory.globals)
+  pub output : (65536 ≤ vec_capacity e.output) × (length e.output.items ≤ 65536)
   pub cells : e.memory.cell_room + (length e.memory.globals + (length e.memory.frame + celled e.memory.frames)) ≡ 65536 + 256 * most
 
 pub record Runs (p : PlainProgram) (e : Engine) : Type 0 where
@@ -74,7 +76,6 @@ pub record Runs (p : PlainProgram) (e : Engine) : Type 0 where
 abbrev pub RunsOn : PlainProgram → Flow → Engine → Type 0
 RunsOn p flows.On e = Runs p e
 RunsOn p (flows.Ask site) e = Runs p e
-RunsOn p (flows.Show format) e = Runs p e
 RunsOn p _ e = Unit {0}
 
 -- how far it is from its end: by the ticks that are left, whether it stands at a tick, the frames, and the code ahead
@@ -134,8 +135,19 @@ pub record CanCall (p : PlainProgram) (k : ℕ) (e : Engine) : Type 0 where
   pub is : slice_get p.functions k ≡ Some function
   pub roomy : call_traps function e ≡ None → (length function.parameters ≤ frame_size function) × (frame_size function ≤ e.memory.cell_room) × (0 < e.memory.frame_room)
 
+-- the text that is printed, in pieces, with room for it
+pub record CanPrint (p : PlainProgram) (format : ℕ) (e : Engine) : Type 0 where
+  pub text : List ℕ
+  pub is : slice_get p.formats format ≡ Some text
+  pub all : List Piece
+  pub parts : pieces text ≡ Some all
+  pub enough : count_of all ≤ length e.memory.stack
+  pub room : 65536 ≤ vec_capacity e.output
+  pub few : length e.output.items ≤ 65536
+
 abbrev pub HasFunction : PlainProgram → Instr → Engine → Type 0
 HasFunction p (Call k) e = CanCall p k e
+HasFunction p (Print format) e = CanPrint p format e
 HasFunction p _ e = Unit {0}
 
 -- numbers, space for more, and cells

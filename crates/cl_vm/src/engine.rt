@@ -17,8 +17,6 @@ pub enum Flow {
     Over(i64),
     /// To the operation of this site, at which it stands.
     Ask(u32),
-    /// To the text of this format, before which it stands.
-    Show(u32),
 }
 
 /// A process between two of its instructions.

@@ -8,6 +8,7 @@ mod engine;
 mod memory;
 mod numbers;
 mod output;
+mod printing;
 mod step;
 
 pub use engine::{Engine, Flow};

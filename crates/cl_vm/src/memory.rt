@@ -42,8 +42,8 @@ impl Model for Memory {
 }
 
 impl Memory {
-    ghost use Rattle.std.specs.Prelude.{◌≡◌, ◌+◌, ◌-◌, ◌<◌, ◌≤◌, length, slice_get, Some};
-    ghost use Rattle.cl_vm.specs.Memory.{with_pushed, with_local, with_global, with_cleared, with_entered};
+    ghost use Rattle.std.specs.Prelude.{◌≡◌, ◌+◌, ◌-◌, ◌<◌, ◌≤◌, length, reverse, take, slice_get, Some};
+    ghost use Rattle.cl_vm.specs.Memory.{with_pushed, with_local, with_global, with_cleared, with_dropped, with_entered};
     ghost use Rattle.cl_vm.specs.MemoryViews.{Left};
 
     /// Pushes a number, into room that was made before.
@@ -66,6 +66,23 @@ impl Memory {
             Some(n) => n,
             None => unreachable!(),
         }
+    }
+
+    /// The topmost numbers of the active function, so many; the topmost is the last.
+    pub fn top(&self, count: usize) -> &[i64]
+        requires { count ≤ length self.now.stack }
+        ensures { result.now ≡ reverse (take count self.now.stack) }
+    {
+        &self.numbers[self.numbers.len() - count..]
+    }
+
+    /// Drops so many numbers.
+    pub fn drop_top(&mut self, count: usize)
+        requires { count ≤ length self.old.stack }
+        ensures { self.new ≡ with_dropped count self.old }
+    {
+        let rest = self.numbers.len() - count;
+        self.numbers.truncate(rest);
     }
 
     /// A cell of the active function.

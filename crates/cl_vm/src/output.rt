@@ -127,3 +127,19 @@ pub fn print_text(output: &mut Vec<u8>, text: &[u8], numbers: &[i64]) -> bool
     }
     true
 }
+
+/// How many numbers a text prints.
+pub fn count_numbers(text: &[u8]) -> usize
+    requires { (all : List Piece) × (pieces text.now ≡ Some all) }
+    ensures { (all : List Piece) → pieces text.now ≡ Some all → result ≡ count_of all }
+{
+    let mut i = 0;
+    let mut k = 0;
+    'pieces: while i < text.len() {
+        let rest = &text[i..];
+        let (piece, count) = piece_of(first_byte(rest), second_byte(rest));
+        i += count;
+        k += takes(piece);
+    }
+    k
+}

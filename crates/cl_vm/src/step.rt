@@ -88,10 +88,7 @@ impl Engine {
             Instr::Call(k) => self.call_number(program, k),
             Instr::Return => self.give_back(),
             Instr::Pop => self.drop_number(),
-            Instr::Print(format) => {
-                self.place -= 1;
-                Flow::Show(format)
-            }
+            Instr::Print(format) => self.show(program, format),
             Instr::Perform(site) => {
                 self.place -= 1;
                 Flow::Ask(site)
