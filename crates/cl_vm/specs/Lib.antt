@@ -3,3 +3,4 @@ pub mod MemoryViews
 pub mod Engine
 pub mod Runs
 pub mod Printing
+pub mod Begins

@@ -15,6 +15,19 @@ pub record Memory : Type 0 where
   pub cell_room : ℕ
   pub frame_room : ℕ
 
+-- globals and no function
+abbrev pub empty_memory : List ℤ → ℕ → ℕ → ℕ → Memory
+empty_memory globals cells numbers functions =
+    record {
+      globals = globals;
+      frame = [];
+      stack = [];
+      frames = [];
+      space = numbers;
+      cell_room = cells - length globals;
+      frame_room = functions;
+    }
+
 abbrev pub with_pushed : ℤ → Memory → Memory
 with_pushed n m = record m { stack = n ∷ m.stack }
 

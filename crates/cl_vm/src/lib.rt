@@ -10,6 +10,7 @@ mod numbers;
 mod output;
 mod printing;
 mod step;
+mod values;
 
 pub use engine::{Engine, Flow};
 pub use memory::Memory;

@@ -1,3 +1,5 @@
+use cl_value::NoMemory;
+use std::alloc::Global;
 use std::marker::Model;
 
 /// What waits for the result of a function: where its own cells and numbers begin, and where it goes on.
@@ -42,9 +44,41 @@ impl Model for Memory {
 }
 
 impl Memory {
-    ghost use Rattle.std.specs.Prelude.{◌≡◌, ◌+◌, ◌-◌, ◌<◌, ◌≤◌, length, reverse, take, slice_get, Some};
-    ghost use Rattle.cl_vm.specs.Memory.{with_pushed, with_local, with_global, with_cleared, with_dropped, with_entered};
+    ghost use Rattle.std.specs.Prelude.{◌≡◌, ◌+◌, ◌-◌, ◌<◌, ◌≤◌, length, reverse, take, slice_get, IfOk, Some};
+    ghost use Rattle.cl_vm.specs.Memory.{empty_memory, with_pushed, with_local, with_global, with_cleared, with_dropped, with_entered};
     ghost use Rattle.cl_vm.specs.MemoryViews.{Left};
+
+    /// A memory with these globals and no function, with room for so many cells, numbers and functions that wait.
+    /// `NoMemory` comes where the allocator refused that room.
+    pub fn new(
+        alloc: Global,
+        globals: &[i64],
+        cells: usize,
+        numbers: usize,
+        functions: usize,
+    ) -> Result<Memory, NoMemory>
+        requires { length globals.now ≤ cells }
+        ensures { IfOk result (λ m. m ≡ empty_memory globals.now cells numbers functions) }
+    {
+        let Ok(mut own) = Vec::with_capacity(alloc, cells) else {
+            return Err(NoMemory);
+        };
+        let Ok(numbers) = Vec::with_capacity(alloc, numbers) else {
+            return Err(NoMemory);
+        };
+        let Ok(waiting) = Vec::with_capacity(alloc, functions) else {
+            return Err(NoMemory);
+        };
+        append(&mut own, globals);
+        Ok(Memory {
+            cells: own,
+            numbers,
+            waiting,
+            globals: globals.len(),
+            base: globals.len(),
+            floor: 0,
+        })
+    }
 
     /// Pushes a number, into room that was made before.
     #[inline(always)]
