@@ -7,3 +7,4 @@ pub mod Falling
 pub mod Pieces
 pub mod Showing
 pub mod Stepping
+pub mod Fresh

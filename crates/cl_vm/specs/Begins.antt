@@ -1,5 +1,5 @@
 -- How a process begins at the main function, and what its result means. (This project.)
-use Rattle.std.specs.Prelude.{◌≡◌, ℕ, ◌+◌, ◌*◌, ◌≤◌, ◌<◌, List, [], ◌∷◌, length, slice_get, vec_capacity, Option, Some, None, pos, ℤ}
+use Rattle.std.specs.Prelude.{max, ◌≡◌, ℕ, ◌+◌, ◌*◌, ◌≤◌, ◌<◌, List, [], ◌∷◌, length, slice_get, vec_capacity, Option, Some, None, pos, ℤ}
 use Rattle.cl_value.specs.declared.process.Trap.{Trap}
 use Rattle.cl_value.specs.declared.process.Trap.TheVariants.{CellLimit}
 use Rattle.cl_value.specs.Plain.{PlainReply, Main}
@@ -44,3 +44,12 @@ abbrev pub Begins : PlainProgram → ℕ → Flow → Engine → Type 0
 Begins p steps flows.On e = Runs p e × ((cells : ℕ) × ((replies : List PlainReply) → code_demand p steps Main replies ≡ onward p (behind_main p cells) e replies))
 Begins p steps (flows.Stop t) e = (replies : List PlainReply) → code_demand p steps Main replies ≡ code_demand_of (Stops t) [] replies
 Begins p steps _ e = ⊥
+
+-- the highest stack, and the most temporaries
+abbrev pub highest_of : List PlainFunction → ℕ
+highest_of [] = 0
+highest_of (f ∷ fs) = max f.stack (highest_of fs)
+
+abbrev pub most_of : List PlainFunction → ℕ
+most_of [] = 0
+most_of (f ∷ fs) = max f.temporaries (most_of fs)

@@ -9,6 +9,7 @@ mod memory;
 mod numbers;
 mod output;
 mod printing;
+mod starting;
 mod step;
 mod values;
 
