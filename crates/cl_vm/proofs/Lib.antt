@@ -8,3 +8,4 @@ pub mod Pieces
 pub mod Showing
 pub mod Stepping
 pub mod Fresh
+pub mod Beginning

@@ -28,6 +28,10 @@ empty_memory globals cells numbers functions =
       frame_room = functions;
     }
 
+-- the frame has so many more cells, which are zeros
+abbrev pub with_more : ℕ → Memory → Memory
+with_more count m = record m { frame = m.frame ++ replicate count (pos 0); cell_room = m.cell_room - count }
+
 abbrev pub with_pushed : ℤ → Memory → Memory
 with_pushed n m = record m { stack = n ∷ m.stack }
 

@@ -45,7 +45,7 @@ impl Model for Memory {
 
 impl Memory {
     ghost use Rattle.std.specs.Prelude.{◌≡◌, ◌+◌, ◌-◌, ◌<◌, ◌≤◌, length, reverse, take, slice_get, IfOk, Some};
-    ghost use Rattle.cl_vm.specs.Memory.{empty_memory, with_pushed, with_local, with_global, with_cleared, with_dropped, with_entered};
+    ghost use Rattle.cl_vm.specs.Memory.{empty_memory, with_pushed, with_local, with_global, with_cleared, with_dropped, with_entered, with_more};
     ghost use Rattle.cl_vm.specs.MemoryViews.{Left};
 
     /// A memory with these globals and no function, with room for so many cells, numbers and functions that wait.
@@ -161,6 +161,14 @@ impl Memory {
         ensures { self.new ≡ with_cleared from count self.old }
     {
         clear_range(&mut self.cells, self.base + from, count);
+    }
+
+    /// Gives the active function so many more cells, which are zeros, in room that was made before.
+    pub fn extend(&mut self, count: usize)
+        requires { count ≤ self.old.cell_room }
+        ensures { self.new ≡ with_more count self.old }
+    {
+        append_zeros(&mut self.cells, count);
     }
 
     /// How many functions wait.

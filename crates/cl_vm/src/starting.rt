@@ -1,14 +1,15 @@
 //! How a process begins. (Limits: this project.)
 
-ghost use Rattle.std.specs.Prelude.{◌≡◌, ◌<◌, ◌≤◌, ◌^◌, IfOk, length, map};
+ghost use Rattle.std.specs.Prelude.{ℕ, slice_get, Some, ◌≡◌, ◌<◌, ◌≤◌, ◌^◌, IfOk, length, map};
 ghost use Rattle.cl_code.specs.Plain.{plain_function, plain_program};
-ghost use Rattle.cl_vm.specs.Begins.{IsFresh, highest_of, most_of};
+ghost use Rattle.cl_code.specs.Valid.{Valid};
+ghost use Rattle.cl_vm.specs.Begins.{Begins, IsFresh, highest_of, most_of};
 
 use crate::calls::{MOST_ACTIVE, MOST_CELLS};
 use crate::output::MOST_PRINTED;
-use crate::{Engine, Memory};
-use cl_code::{Function, Program};
-use cl_value::NoMemory;
+use crate::{Engine, Flow, Memory};
+use cl_code::{Function, Program, each_process_is_right};
+use cl_value::{NoMemory, Trap};
 use std::alloc::Global;
 
 // The highest stack of these functions.
@@ -78,4 +79,35 @@ impl Engine {
             depth,
         })
     }
+
+    /// Begins at the main function. Its cells and the globals are claimed first.
+    pub(crate) fn begin_main(&mut self, program: &Program) -> Flow
+        ghost steps: { ℕ }
+        requires { IsFresh (plain_program program.now) steps 0 self.old }
+        ensures { Begins (plain_program program.now) steps result self.new }
+    {
+        each_process_is_right();
+        let globals = program.parts().globals.len();
+        if globals > MOST_CELLS {
+            return Flow::Stop(Trap::CellLimit);
+        }
+        let main = main_function(program);
+        let cells = main.cells as usize;
+        if globals + cells > MOST_CELLS {
+            return Flow::Stop(Trap::CellLimit);
+        }
+        self.memory.extend(cells + main.temporaries as usize);
+        self.cells = globals + cells;
+        self.place = main.entry as usize;
+        Flow::On
+    }
+}
+
+// The function at which process 0 begins.
+fn main_function(program: &Program) -> &Function
+    ensures valid { Valid (plain_program program.now) }
+    ensures is { slice_get (plain_program program.now).functions (plain_program program.now).main ≡ Some (plain_function result.now) }
+{
+    let parts = program.parts();
+    parts.functions.at(parts.main as usize)
 }
