@@ -3,7 +3,7 @@ use Rattle.std.proofs.Common.{◌≡◌, ℕ, ◌+◌, ◌-◌, ◌*◌, ◌<◌
 use Rattle.std.proofs.Math.Path.{fun_ext}
 use Rattle.std.proofs.lemmas.Bool.{lt-ltb, le-ltb}
 use Rattle.std.proofs.lemmas.List.{length-replicate}
-use Rattle.std.specs.Prelude.{ℤ, pos, slice_get, nat_lt, replicate, if◌then◌else◌}
+use Rattle.std.specs.Prelude.{ℤ, Ok, Err, pos, slice_get, nat_lt, replicate, if◌then◌else◌}
 use Rattle.cl_value.specs.declared.value.Value.{Value}
 use Rattle.cl_value.specs.declared.process.Trap.{Trap}
 use Rattle.cl_value.specs.declared.process.Trap.TheVariants.{CellLimit}
@@ -15,12 +15,14 @@ use Rattle.cl_code.specs.Valid.{Valid}
 use Rattle.cl_code.specs.Laws.{IsNeverWrong}
 use Rattle.cl_code.specs.Positions.{Reached, entry_of}
 use Rattle.cl_code.specs.Positions as positions
-use Rattle.cl_code.specs.Process.{CodeDemand, code_demand, code_demand_of, main, process, begun, function_does, ending_as, type_given, alone}
+use Rattle.cl_code.specs.Process.{CodeDemand, code_demand, code_demand_of, main, process, begun, function_does, ending_as, result_as, type_given, alone}
 use Rattle.cl_code.specs.Machine.{Cells, Does, Ending, Frame, frame_of, set_frame, machine}
 use Rattle.cl_vm.specs.Memory.{with_more}
 use Rattle.cl_vm.specs.Engine.{Behind, state_of, onward}
 use Rattle.cl_vm.specs.Runs.{callers_of, position_of, stacked, celled, AreLow, AreSized, IsSafe, IsRoomy, Runs}
-use Rattle.cl_vm.specs.Begins.{behind_main, AreMost, IsFresh}
+use Rattle.cl_vm.specs.Begins.{behind_main, main_cells, AreMost, IsFresh, ComesTo, progress_of}
+use Rattle.cl_model.specs.Numbers.{and_then}
+use Rattle.cl_model.specs.Doing.{Checked, trap}
 use Rattle.cl_vm.specs.declared.engine.Engine.{Engine}
 
 -- one thing after another
@@ -156,3 +158,21 @@ module _ (p : PlainProgram) (valid : Valid p) (never : IsNeverWrong) (ticks : �
 
   pub main_runs : Runs p new
   main_runs = record { safe = main_safe; reached = main_reached; roomy = main_roomy }
+
+-- ---- the end of the main function
+
+module _ (p : PlainProgram) (ticks : ℕ) (f : PlainFunction) (is : slice_get p.functions p.main ≡ Some f) (n : ℤ) (e : Engine) where
+  abbrev after_it : State Cells
+  after_it = record (state_of e) { cells = e.cells - main_cells p }
+
+  abbrev told : Checked (Option Value) → Steps (Option (List Value) × State Cells)
+  told c = (checked c >>= (λ value. pure (alone value))) after_it
+
+  result_told : behind_main p (main_cells p) (Some n) (state_of e) ≡ told (and_then (result_as f.gives n) (λ v. Ok (Some v)))
+  unfolding ◌>>=◌ ◌>>◌ then_do release pure
+  result_told = ap (λ o. told (ending_as (type_given o) (Some n))) is
+
+  pub comes_to : ((replies : List PlainReply) → code_demand p ticks Main replies ≡ code_demand_of (behind_main p (main_cells p) (Some n) (state_of e)) e.output.items replies) → (r : Checked Value) → result_as f.gives n ≡ r → ComesTo p ticks (progress_of r) e
+  unfolding ◌>>=◌ then_do pure trap checked
+  comes_to h (Ok v) told_is = λ replies. h replies ∙ ap (λ steps. code_demand_of steps e.output.items replies) (result_told ∙ ap (λ c. told (and_then c (λ v. Ok (Some v)))) told_is)
+  comes_to h (Err t) told_is = λ replies. h replies ∙ ap (λ steps. code_demand_of steps e.output.items replies) (result_told ∙ ap (λ c. told (and_then c (λ v. Ok (Some v)))) told_is)

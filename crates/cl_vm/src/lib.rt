@@ -15,3 +15,4 @@ mod values;
 
 pub use engine::{Engine, Flow};
 pub use memory::Memory;
+pub use starting::Progress;
