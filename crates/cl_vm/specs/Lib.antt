@@ -4,3 +4,4 @@ pub mod Engine
 pub mod Runs
 pub mod Printing
 pub mod Begins
+pub mod Small

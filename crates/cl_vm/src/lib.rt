@@ -11,6 +11,8 @@ mod output;
 mod printing;
 mod starting;
 mod step;
+#[cfg(test)]
+mod tests;
 mod values;
 
 pub use engine::{Engine, Flow};
