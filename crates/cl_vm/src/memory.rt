@@ -96,10 +96,10 @@ impl Memory {
         ensures number { self.old ≡ with_pushed result self.new }
         ensures room { length self.new.stack < self.new.space }
     {
-        match self.numbers.pop() {
-            Some(n) => n,
-            None => unreachable!(),
-        }
+        let last = self.numbers.len() - 1;
+        let n = self.numbers[last];
+        self.numbers.truncate(last);
+        n
     }
 
     /// The topmost numbers of the active function, so many; the topmost is the last.
