@@ -5,7 +5,7 @@ use Rattle.cl_walk.specs.Views.{exit_of}
 use Rattle.cl_walk.specs.Walks.{point}
 use Rattle.cl_walk.proofs.Walking.{leaves}
 use Rattle.cl_walk.proofs.Sequences.{going_begins, going_next, going_stops, going_leaves, going_ends}
-use Rattle.cl_walk.specs.declared.call.Exit.TheVariants.{WentOn}
+use Rattle.cl_walk.specs.declared.call.Exit.TheVariants as exits
 use Rattle.cl_walk.proofs.SentenceRules.{exit_is, not_on}
 use Rattle.cl_walk.proofs.statement.in_order.Goals as goal
 
@@ -20,7 +20,7 @@ pub returns-in_default : goal.returns-in_default
 returns-in_default g c = going_leaves (does (around c.args.on.now) (length_in c.args.on.now)) c.args.statements.now (point c.args.state.now (g.W.World.said c.args.world.now)) exit_of c.loop-i.i c.index-statements-i.result (point c.loop-i.state (g.W.World.said c.loop-i.world)) (point c.statement.new.state (g.W.World.said c.statement.new.world)) c.loop-i.invariant c.loop-i-test.true c.index-statements-i.is exit_of c.in_ok-exit.exit c.in_ok-exit.exit (exit_of c.in_ok-exit.exit) refl refl (not_on c.in_ok-exit.exit c.in_default.not-WentOn) c.in_ok-exit.ensures
 
 pub loop-i-preserved : goal.loop-i-preserved
-loop-i-preserved g c = going_next (does (around c.args.on.now) (length_in c.args.on.now)) c.args.statements.now (point c.args.state.now (g.W.World.said c.args.world.now)) exit_of c.loop-i.i c.index-statements-i.result (point c.loop-i.state (g.W.World.said c.loop-i.world)) (point c.statement.new.state (g.W.World.said c.statement.new.world)) c.loop-i.invariant c.loop-i-test.true c.index-statements-i.is c.in_ok-exit.exit (exit_is c.in_ok-exit.exit WentOn c.in-WentOn.is) c.in_ok-exit.ensures
+loop-i-preserved g c = going_next (does (around c.args.on.now) (length_in c.args.on.now)) c.args.statements.now (point c.args.state.now (g.W.World.said c.args.world.now)) exit_of c.loop-i.i c.index-statements-i.result (point c.loop-i.state (g.W.World.said c.loop-i.world)) (point c.statement.new.state (g.W.World.said c.statement.new.world)) c.loop-i.invariant c.loop-i-test.true c.index-statements-i.is c.in_ok-exit.exit (exit_is c.in_ok-exit.exit exits.WentOn c.in-WentOn.is) c.in_ok-exit.ensures
 
 pub returns : goal.returns
-returns g c = going_ends (does (around c.args.on.now) (length_in c.args.on.now)) c.args.statements.now (point c.args.state.now (g.W.World.said c.args.world.now)) exit_of c.loop-i.i (point c.loop-i.state (g.W.World.said c.loop-i.world)) WentOn refl c.loop-i.invariant c.loop-i-test.false
+returns g c = going_ends (does (around c.args.on.now) (length_in c.args.on.now)) c.args.statements.now (point c.args.state.now (g.W.World.said c.args.world.now)) exit_of c.loop-i.i (point c.loop-i.state (g.W.World.said c.loop-i.world)) exits.WentOn refl c.loop-i.invariant c.loop-i-test.false
