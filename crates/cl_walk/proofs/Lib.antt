@@ -13,3 +13,5 @@ pub mod Sequences
 pub mod Turning
 pub mod GroundCallables
 pub mod Values
+pub mod Named
+pub mod Calling
