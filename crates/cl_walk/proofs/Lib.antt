@@ -21,3 +21,4 @@ pub mod LiveCalls
 pub mod Values
 pub mod Demanded
 pub mod Processes
+pub mod Assigning
