@@ -29,7 +29,7 @@ use Rattle.cl_walk.specs.declared.stop.Stop.TheVariants.{Trapped}
 use Rattle.cl_walk.specs.declared.call.Exit.{Exit}
 use Rattle.cl_walk.specs.declared.call.Exit.TheVariants as exits
 use Rattle.cl_walk.specs.Views.{exit_of}
-use Rattle.cl_walk.specs.Walks.{here, Point, Comes, same}
+use Rattle.cl_walk.specs.Walks.{here, Shown, Said, Point, point, Comes, same}
 use Rattle.cl_walk.proofs.Walking.{on, up, on_then, up_then, checked_ok, checked_err}
 use Rattle.cl_walk.proofs.Values.{gives_pure, reads_value, told_by}
 use Rattle.cl_walk.proofs.Processes.{then_then}
@@ -166,5 +166,9 @@ module _ (around : Surroundings) (length_of : Size → ℕ) where
         assign_done u s = past_place (Ok exits.WentOn) to (on same exit_of (change_value name at change) (put name at) between next b (Ok exits.WentOn) to w (part_done same (store name at b) next to u s))
 
   -- a change by its form
-  pub change_comes : (name : List ℕ) (at : ℕ) (change form : Change) (from : Point) (result : Result Value Stop) (to : Point) → change ≡ form → Comes same (change_value name at form) from result to → Comes same (change_value name at change) from result to
-  change_comes name at change form from result to is v = told_by same (change_value name at change) (change_value name at form) from result to (ap (change_value name at) is) v
+  module _ (name : List ℕ) (at : ℕ) (change form : Change) (is : change ≡ form) (from : Point) where
+    pub change_comes : (result : Result Value Stop) (to : Point) → Comes same (change_value name at form) from result to → Comes same (change_value name at change) from result to
+    change_comes result to v = told_by same (change_value name at change) (change_value name at form) from result to (ap (change_value name at) is) v
+
+    pub change_gives : (v w : Value) → v ≡ w → (s t : Shown) → s ≡ t → (a b : Said) → a ≡ b → Comes same (change_value name at form) from (Ok w) (point t b) → Comes same (change_value name at change) from (Ok v) (point s a)
+    change_gives v w value_is s t state_is a b said_is comes = rw (value_is, state_is, said_is) (change_comes (Ok w) (point t b) comes)
