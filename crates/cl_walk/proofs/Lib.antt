@@ -22,3 +22,4 @@ pub mod Values
 pub mod Demanded
 pub mod Processes
 pub mod Assigning
+pub mod Declaring
