@@ -15,7 +15,6 @@ use Rattle.cl_meaning.specs.Operators.{converted, zero_of}
 use Rattle.cl_meaning.specs.Variables.{declared}
 use Rattle.cl_meaning.specs.Operations.{Does}
 use Rattle.cl_meaning.specs.Expressions.{Surroundings, value}
-use Rattle.cl_meaning.specs.Statements as meaning
 use Rattle.cl_meaning.specs.Statements.{WentOn, declare, form_does, declarator_does}
 use Rattle.cl_walk.specs.declared.stop.Stop.{Stop}
 use Rattle.cl_walk.specs.declared.stop.Stop.TheVariants.{Trapped, NoMemory}

@@ -1,6 +1,5 @@
-use Rattle.std.specs.Prelude.{Ok, Err, pos}
+use Rattle.std.specs.Prelude.{Err}
 use Rattle.std.proofs.Common.{ap}
-use Rattle.cl_value.specs.declared.value.Value.TheVariants.{Int}
 use Rattle.cl_ast.specs.declared.tree.Operator.TheVariants as operators
 use Rattle.cl_ast.specs.declared.statement.Change.TheVariants as changes
 use Rattle.cl_meaning.specs.Expressions.{place_meant}

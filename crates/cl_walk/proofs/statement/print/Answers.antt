@@ -1,4 +1,4 @@
-use Rattle.std.proofs.Common.{◌∙◌, map}
+use Rattle.std.proofs.Common.{◌∙◌}
 use Rattle.std.specs.Global.{Vec}
 use Rattle.cl_value.specs.declared.value.Value.{Value}
 use Rattle.cl_meaning.specs.Statements.{print_does}
