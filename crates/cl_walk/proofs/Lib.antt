@@ -23,3 +23,4 @@ pub mod Demanded
 pub mod Processes
 pub mod Calling
 pub mod Assigning
+pub mod Declaring
