@@ -199,9 +199,9 @@ expression::link-returns-in_ok-operated-in_default g t c = operated_gives (aroun
 
 pub expression::link-returns-in_ok-right-in-And-2 : goal.expression::link-returns-in_ok-right-in-And-2
 expression::link-returns-in_ok-right-in-And-2 g t c = right_gives (around c.args.on.now) c.args.found.now c.args.before (point c.args.state.now (g.W.World.said c.args.world.now)) (point c.expression-in-And-2.new.state (g.W.World.said c.expression-in-And-2.new.world)) (elim c.in-And-2-1.branch [
-      | in-And+else-is_zero w ↦ and_tests (around c.args.on.now) c.args.found.now c.args.before w.in-And.is (sym w.if-is_zero.ensures)
-      | in-Or+else-not-is_zero w ↦ or_tests (around c.args.on.now) c.args.found.now c.args.before w.in-Or.is (sym w.if-not-is_zero.ensures)
-    ]) c.in_ok-right-in-And-2.right c.truth-in-And-2.result (c.truth-in-And-2.ensures ∙ ap (λ b. truth (not b)) c.is_zero-in-And-2.ensures) c.in_ok-right-in-And-2.ensures
+  | in-And+else-is_zero w ↦ and_tests (around c.args.on.now) c.args.found.now c.args.before w.in-And.is (sym w.if-is_zero.ensures)
+  | in-Or+else-not-is_zero w ↦ or_tests (around c.args.on.now) c.args.found.now c.args.before w.in-Or.is (sym w.if-not-is_zero.ensures)
+]) c.in_ok-right-in-And-2.right c.truth-in-And-2.result (c.truth-in-And-2.ensures ∙ ap (λ b. truth (not b)) c.is_zero-in-And-2.ensures) c.in_ok-right-in-And-2.ensures
 
 pub expression::operation-returns-in_err-parts-in-Eval : goal.expression::operation-returns-in_err-parts-in-Eval
 expression::operation-returns-in_err-parts-in-Eval g t c = leaves same (operation (around c.args.on.now) c.args.found.now) (point c.args.state.now (g.W.World.said c.args.world.now)) (point c.parts.new.state (g.W.World.said c.parts.new.world)) c.from_residual.result c.in_err-parts-in-Eval.field-0.0 c.from_residual.ensures.1
