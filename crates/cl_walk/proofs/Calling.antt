@@ -97,8 +97,8 @@ module _ (on_call : Context) (name : Name) (values : List Value) (from : Point) 
       given_goes : (result : Result Value Stop) (after : Point) → Comes same (behind (scope_in given)) from result after → Comes same (calls_in on_call name values) from result after
       given_goes result after v = enters result after (on scope_in same (parameters f.parameters values) behind from from given result after taken v)
 
-      pub tick_stops : (stop : Stop) → Comes {B = Unit {0}} same tick from (Err stop) to → Comes {B = Value} same (calls_in on_call name values) from (Err stop) to
-      tick_stops stop w = given_goes (Err stop) to (up_then same same tick (behind_tick (fixed_in on_call) name values on_call.calls f (scope_in given)) from to stop w)
+      pub enter_tick_stops : (stop : Stop) → Comes {B = Unit {0}} same tick from (Err stop) to → Comes {B = Value} same (calls_in on_call name values) from (Err stop) to
+      enter_tick_stops stop w = given_goes (Err stop) to (up_then same same tick (behind_tick (fixed_in on_call) name values on_call.calls f (scope_in given)) from to stop w)
 
       module _ (ticked : Comes {B = Unit {0}} same tick from (Ok tt) to) where
         ticked_goes : (p : Does Value) → behind_tick (fixed_in on_call) name values on_call.calls f (scope_in given) ≡ p → (result : Result Value Stop) (after : Point) → Comes same p to result after → Comes same (calls_in on_call name values) from result after
@@ -133,8 +133,8 @@ module _ (fixed : Fixed) (call : Name → List Value → Does Value) (f : Functi
     claimed_goes : (result : Result Value Stop) (after : Point) → Comes same with_cells between result after → Comes same (run fixed call f given) from result after
     claimed_goes result after v = told_by same (run fixed call f given) (claim cells >> with_cells) from result after run_rule (on_then same same (claim cells) with_cells from between tt result after claimed v)
 
-    pub body_stops : (stop : Stop) → Comes {B = Value} same (body fixed call f given) between (Err stop) to → Comes {B = Value} same (run fixed call f given) from (Err stop) to
-    body_stops stop w = claimed_goes (Err stop) to (up same same (body fixed call f given) (λ v. release cells >> pure v) between to stop w)
+    pub run_body_stops : (stop : Stop) → Comes {B = Value} same (body fixed call f given) between (Err stop) to → Comes {B = Value} same (run fixed call f given) from (Err stop) to
+    run_body_stops stop w = claimed_goes (Err stop) to (up same same (body fixed call f given) (λ v. release cells >> pure v) between to stop w)
 
     pub run_goes : (v : Value) → Comes same (body fixed call f given) between (Ok v) to → (after : Point) → Comes {B = Unit {0}} same (release cells) to (Ok tt) after → Comes same (run fixed call f given) from (Ok v) after
     run_goes v w after released = claimed_goes (Ok v) after (on same same (body fixed call f given) (λ v. release cells >> pure v) between to v (Ok v) after w
