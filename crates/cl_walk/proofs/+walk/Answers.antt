@@ -12,13 +12,12 @@ use Rattle.std.specs.Global.{Vec}
 use Rattle.cl_value.specs.declared.value.Value.{Value}
 use Rattle.cl_walk.proofs.Sequences.{giving_begins, giving_next, giving_stops, giving_ends, passing_begins, passing_next, passing_stops, passing_ends, going_begins, going_next, going_stops, going_leaves, going_ends}
 use Rattle.cl_walk.proofs.ExpressionRules.{given_none, given_more, chain_stops, chain_goes, and_decides, or_decides, and_tests, or_tests, right_stops, right_gives, operand_stops, operated_traps, operated_gives}
-use Rattle.cl_walk.proofs.Calling.{call_stops, call_goes, enters_none, parameters_stop, tick_stops, depth_stops, enters_runs, claim_stops, body_stops, run_goes, statements_stop, body_goes}
+use Rattle.cl_walk.proofs.Calling.{call_stops, call_goes, enters_none, parameters_stop, enter_tick_stops, depth_stops, enters_runs, claim_stops, run_body_stops, run_goes, statements_stop, body_goes}
 use Rattle.cl_meaning.specs.Outer.{frame_cells}
 use Rattle.cl_walk.specs.Views.{scope_in, aims_of, aim_of, exit_of}
 use Rattle.cl_meaning.specs.Parts.{chain_value, link_value, field_aim, field_part, call_part, if_exit, while_exit, do_exit, for_exit, while_turn, do_turn, for_turns, for_turn, new_value}
 use Rattle.std.specs.Prelude.{not, Ok, Err, option_map}
 use Rattle.cl_model.specs.Numbers.{truth}
-use Rattle.cl_walk.proofs.expression.link.Goals.{in-And+else-is_zero, in-Or+else-not-is_zero}
 use Rattle.cl_value.specs.Room.{Room}
 use Rattle.cl_value.specs.LiveViews.{plain_part}
 use Rattle.cl_value.specs.declared.live.LiveField.{LiveField}
@@ -35,9 +34,7 @@ use Rattle.cl_ast.specs.declared.statement.While.{out-While}
 use Rattle.cl_ast.specs.declared.statement.Do.{out-Do}
 use Rattle.cl_ast.specs.declared.statement.For.{out-For}
 use Rattle.cl_walk.proofs.Declaring.{declare_comes, declares, initial_stops, initial_traps, initial_gives, bare_gives, array_gives}
-use Rattle.cl_walk.proofs.statement.declare.Goals.{in-Bare+in_ok-values-in-Bare, in-Array+in_ok-values-in-Array, in-Value+in_ok-value-in-Value+in_ok-converted-in-Value+in_ok-values-in-Value}
 use Rattle.cl_walk.proofs.Assigning.{step_traps, step_gives, assign_place_stops, assign_value_stops, assign_stops, assign_done, change_comes, change_gives, new_stops, new_traps, new_gives, print_values_stop, print_stops, print_done, of_equal}
-use Rattle.cl_walk.proofs.statement.assign.Goals.{in-Set+in_ok-value-in-Set, in-Add+in_ok-value-in-Add, in-Subtract+in_ok-value-in-Subtract, in-Multiply+in_ok-value-in-Multiply, in-Increment+in_ok-value-in-Increment, in-Decrement+in_ok-value-in-Decrement}
 use Rattle.cl_ast.specs.declared.tree.Spanned.{Spanned}
 use Rattle.cl_meaning.specs.Expressions as meaning
 use Rattle.cl_meaning.specs.Calls as calls
@@ -46,6 +43,7 @@ use Rattle.cl_ast.specs.declared.statement.Stmt.TheVariants as stmts
 use Rattle.cl_meaning.proofs.Sentences as sentences
 use Rattle.cl_ast.specs.declared.tree.Operator.TheVariants as operators
 use Rattle.cl_ast.specs.declared.statement.Change.TheVariants as changes
+use Rattle.cl_walk.proofs.+walk.Goals.{expression::link-in-And+else-is_zero, expression::link-in-Or+else-not-is_zero, statement::declare-in-Bare+in_ok-values-in-Bare, statement::declare-in-Array+in_ok-values-in-Array, statement::declare-in-Value+in_ok-value-in-Value+in_ok-converted-in-Value+in_ok-values-in-Value, statement::assign-in-Set+in_ok-value-in-Set, statement::assign-in-Add+in_ok-value-in-Add, statement::assign-in-Subtract+in_ok-value-in-Subtract, statement::assign-in-Multiply+in_ok-value-in-Multiply, statement::assign-in-Increment+in_ok-value-in-Increment, statement::assign-in-Decrement+in_ok-value-in-Decrement}
 use Rattle.cl_walk.proofs.+walk.Goals as goal
 
 pub expression::expression-returns-in-Literal : goal.expression::expression-returns-in-Literal
@@ -124,7 +122,7 @@ expression::enter-returns-in_err-given-in-Some g t c = leaves same (calls_in c.a
 
 pub expression::enter-returns-in_err-tick-in-Some : goal.expression::enter-returns-in_err-tick-in-Some
 expression::enter-returns-in_err-tick-in-Some g t c = leaves same (calls_in c.args.on.now c.args.name.now c.args.values.now) (point c.args.state.now (g.W.World.said c.args.world.now)) (point c.tick.new.self (g.W.World.said c.args.world.now)) c.from_residual-in_err-tick-in-Some.result c.in_err-tick-in-Some.field-0.0 c.from_residual-in_err-tick-in-Some.ensures.1
-    (tick_stops c.args.on.now c.args.name.now c.args.values.now (point c.args.state.now (g.W.World.said c.args.world.now)) c.in-Some.callable.now.function.now c.in-Some.ensures.0 c.in_ok-given-in-Some.given (c.in_ok-given-in-Some.ensures.comes (point c.args.state.now (g.W.World.said c.args.world.now))) (point c.tick.new.self (g.W.World.said c.args.world.now)) c.in_err-tick-in-Some.field-0.0 (c.in_err-tick-in-Some.ensures (g.W.World.said c.args.world.now)))
+    (enter_tick_stops c.args.on.now c.args.name.now c.args.values.now (point c.args.state.now (g.W.World.said c.args.world.now)) c.in-Some.callable.now.function.now c.in-Some.ensures.0 c.in_ok-given-in-Some.given (c.in_ok-given-in-Some.ensures.comes (point c.args.state.now (g.W.World.said c.args.world.now))) (point c.tick.new.self (g.W.World.said c.args.world.now)) c.in_err-tick-in-Some.field-0.0 (c.in_err-tick-in-Some.ensures (g.W.World.said c.args.world.now)))
 
 pub expression::enter-returns-then-on-eq0 : goal.expression::enter-returns-then-on-eq0
 expression::enter-returns-then-on-eq0 g t c = depth_stops c.args.on.now c.args.name.now c.args.values.now (point c.args.state.now (g.W.World.said c.args.world.now)) c.in-Some.callable.now.function.now c.in-Some.ensures.0 c.in_ok-given-in-Some.given (c.in_ok-given-in-Some.ensures.comes (point c.args.state.now (g.W.World.said c.args.world.now))) (point c.tick.new.self (g.W.World.said c.args.world.now)) (c.in_ok-tick-in-Some.ensures (g.W.World.said c.args.world.now)) c.if-on-eq0.true
@@ -141,7 +139,7 @@ expression::run-returns-in_err-claim g t c = leaves same (calls.run (fixed_in c.
 
 pub expression::run-returns-in_err-value : goal.expression::run-returns-in_err-value
 expression::run-returns-in_err-value g t c = leaves same (calls.run (fixed_in c.args.on.now) (calls_in c.args.on.now) c.args.callable.now.function.now (scope_in c.args.given)) (point c.args.state.now (g.W.World.said c.args.world.now)) (point c.body.new.state (g.W.World.said c.body.new.world)) c.from_residual-in_err-value.result c.in_err-value.field-0.0 c.from_residual-in_err-value.ensures.1
-    (body_stops (fixed_in c.args.on.now) (calls_in c.args.on.now) c.args.callable.now.function.now (scope_in c.args.given) (point c.args.state.now (g.W.World.said c.args.world.now)) (point c.claim.new.self (g.W.World.said c.args.world.now)) (c.in_ok-claim.ensures (g.W.World.said c.args.world.now) (frame_cells (length_in c.args.on.now) c.args.callable.now.function.now) c.requires.cells) (point c.body.new.state (g.W.World.said c.body.new.world)) c.in_err-value.field-0.0 c.in_err-value.ensures)
+    (run_body_stops (fixed_in c.args.on.now) (calls_in c.args.on.now) c.args.callable.now.function.now (scope_in c.args.given) (point c.args.state.now (g.W.World.said c.args.world.now)) (point c.claim.new.self (g.W.World.said c.args.world.now)) (c.in_ok-claim.ensures (g.W.World.said c.args.world.now) (frame_cells (length_in c.args.on.now) c.args.callable.now.function.now) c.requires.cells) (point c.body.new.state (g.W.World.said c.body.new.world)) c.in_err-value.field-0.0 c.in_err-value.ensures)
 
 pub expression::run-returns : goal.expression::run-returns
 expression::run-returns g t c = run_goes (fixed_in c.args.on.now) (calls_in c.args.on.now) c.args.callable.now.function.now (scope_in c.args.given) (point c.args.state.now (g.W.World.said c.args.world.now)) (point c.claim.new.self (g.W.World.said c.args.world.now)) (c.in_ok-claim.ensures (g.W.World.said c.args.world.now) (frame_cells (length_in c.args.on.now) c.args.callable.now.function.now) c.requires.cells) (point c.body.new.state (g.W.World.said c.body.new.world)) c.in_ok-value.value c.in_ok-value.ensures (point c.release.new.self (g.W.World.said c.body.new.world)) (c.release.ensures (g.W.World.said c.body.new.world) (frame_cells (length_in c.args.on.now) c.args.callable.now.function.now) c.requires.cells)
@@ -184,8 +182,8 @@ expression::link-returns-in_err-operated-in_default g t c = leaves same (link_va
 pub expression::link-returns-in_err-right-in-And-2 : goal.expression::link-returns-in_err-right-in-And-2
 expression::link-returns-in_err-right-in-And-2 g t c = leaves same (link_value (around c.args.on.now) c.args.found.now c.args.before) (point c.args.state.now (g.W.World.said c.args.world.now)) (point c.expression-in-And-2.new.state (g.W.World.said c.expression-in-And-2.new.world)) c.from_residual-in_err-right-in-And-2.result c.in_err-right-in-And-2.field-0.0 c.from_residual-in_err-right-in-And-2.ensures.1
     (right_stops (around c.args.on.now) c.args.found.now c.args.before (point c.args.state.now (g.W.World.said c.args.world.now)) (point c.expression-in-And-2.new.state (g.W.World.said c.expression-in-And-2.new.world)) (elim c.in-And-2-1.branch [
-      | in-And+else-is_zero w ↦ and_tests (around c.args.on.now) c.args.found.now c.args.before w.in-And.is (sym w.if-is_zero.ensures)
-      | in-Or+else-not-is_zero w ↦ or_tests (around c.args.on.now) c.args.found.now c.args.before w.in-Or.is (sym w.if-not-is_zero.ensures)
+      | expression::link-in-And+else-is_zero w ↦ and_tests (around c.args.on.now) c.args.found.now c.args.before w.in-And.is (sym w.if-is_zero.ensures)
+      | expression::link-in-Or+else-not-is_zero w ↦ or_tests (around c.args.on.now) c.args.found.now c.args.before w.in-Or.is (sym w.if-not-is_zero.ensures)
     ]) c.in_err-right-in-And-2.field-0.0 c.in_err-right-in-And-2.ensures)
 
 pub expression::link-returns-in-And : goal.expression::link-returns-in-And
@@ -199,8 +197,8 @@ expression::link-returns-in_ok-operated-in_default g t c = operated_gives (aroun
 
 pub expression::link-returns-in_ok-right-in-And-2 : goal.expression::link-returns-in_ok-right-in-And-2
 expression::link-returns-in_ok-right-in-And-2 g t c = right_gives (around c.args.on.now) c.args.found.now c.args.before (point c.args.state.now (g.W.World.said c.args.world.now)) (point c.expression-in-And-2.new.state (g.W.World.said c.expression-in-And-2.new.world)) (elim c.in-And-2-1.branch [
-  | in-And+else-is_zero w ↦ and_tests (around c.args.on.now) c.args.found.now c.args.before w.in-And.is (sym w.if-is_zero.ensures)
-  | in-Or+else-not-is_zero w ↦ or_tests (around c.args.on.now) c.args.found.now c.args.before w.in-Or.is (sym w.if-not-is_zero.ensures)
+  | expression::link-in-And+else-is_zero w ↦ and_tests (around c.args.on.now) c.args.found.now c.args.before w.in-And.is (sym w.if-is_zero.ensures)
+  | expression::link-in-Or+else-not-is_zero w ↦ or_tests (around c.args.on.now) c.args.found.now c.args.before w.in-Or.is (sym w.if-not-is_zero.ensures)
 ]) c.in_ok-right-in-And-2.right c.truth-in-And-2.result (c.truth-in-And-2.ensures ∙ ap (λ b. truth (not b)) c.is_zero-in-And-2.ensures) c.in_ok-right-in-And-2.ensures
 
 pub expression::operation-returns-in_err-parts-in-Eval : goal.expression::operation-returns-in_err-parts-in-Eval
@@ -561,7 +559,7 @@ statement::declare-returns-in_err-converted-in-Value g t c = leaves (λ (_ : Uni
     (initial_traps (around c.args.on.now) (length_in c.args.on.now) c.args.of c.args.found.now (point c.args.state.now (g.W.World.said c.args.world.now)) c.in-Value.initial c.in-Value.is (point c.expression.new.state (g.W.World.said c.expression.new.world)) c.in_ok-value-in-Value.value c.in_ok-value-in-Value.ensures c.converted.result c.converted.ensures c.in_err-converted-in-Value.field-0.0 c.in_err-converted-in-Value.was)
 
 pub statement::declare-returns : goal.statement::declare-returns
-statement::declare-returns g t c = declares (around c.args.on.now) (length_in c.args.on.now) c.args.of c.args.found.now (point c.args.state.now (g.W.World.said c.args.world.now)) c.as_slice.result.now c.as_slice.ensures c.match-found.values.items (point c.match-found.state (g.W.World.said c.match-found.world)) (elim c.match-found.branch [ in-Bare+in_ok-values-in-Bare w ↦ bare_gives (around c.args.on.now) (length_in c.args.on.now) c.args.of c.args.found.now (point c.args.state.now (g.W.World.said c.args.world.now)) c.match-found.values.items c.match-found.state (g.W.World.said c.match-found.world) w.state-is (ap g.W.World.said w.world-is) w.in-Bare.is w.zero_of.result w.zero_of.ensures (ap (λ (vs : Vec Value). vs.items) w.values-is ∙ w.in_ok-values-in-Bare.ensures) | in-Array+in_ok-values-in-Array w ↦ array_gives (around c.args.on.now) (length_in c.args.on.now) c.args.of c.args.found.now (point c.args.state.now (g.W.World.said c.args.world.now)) c.match-found.values.items c.match-found.state (g.W.World.said c.match-found.world) w.state-is (ap g.W.World.said w.world-is) w.in-Array.size w.in-Array.is w.length_of.result w.length_of.ensures (ap (λ (vs : Vec Value). vs.items) w.values-is ∙ w.in_ok-values-in-Array.ensures) | in-Value+in_ok-value-in-Value+in_ok-converted-in-Value+in_ok-values-in-Value w ↦ initial_gives (around c.args.on.now) (length_in c.args.on.now) c.args.of c.args.found.now (point c.args.state.now (g.W.World.said c.args.world.now)) w.in-Value.initial w.in-Value.is (point w.expression.new.state (g.W.World.said w.expression.new.world)) w.in_ok-value-in-Value.value w.in_ok-value-in-Value.ensures w.converted.result w.converted.ensures w.in_ok-converted-in-Value.field-0 w.in_ok-converted-in-Value.was c.match-found.values.items (ap (λ (vs : Vec Value). vs.items) w.values-is ∙ w.in_ok-values-in-Value.ensures) c.match-found.state (g.W.World.said c.match-found.world) w.state-is (ap g.W.World.said w.world-is) ]) c.declare.result (point c.declare.new.self (g.W.World.said c.match-found.world))
+statement::declare-returns g t c = declares (around c.args.on.now) (length_in c.args.on.now) c.args.of c.args.found.now (point c.args.state.now (g.W.World.said c.args.world.now)) c.as_slice.result.now c.as_slice.ensures c.match-found.values.items (point c.match-found.state (g.W.World.said c.match-found.world)) (elim c.match-found.branch [ statement::declare-in-Bare+in_ok-values-in-Bare w ↦ bare_gives (around c.args.on.now) (length_in c.args.on.now) c.args.of c.args.found.now (point c.args.state.now (g.W.World.said c.args.world.now)) c.match-found.values.items c.match-found.state (g.W.World.said c.match-found.world) w.state-is (ap g.W.World.said w.world-is) w.in-Bare.is w.zero_of.result w.zero_of.ensures (ap (λ (vs : Vec Value). vs.items) w.values-is ∙ w.in_ok-values-in-Bare.ensures) | statement::declare-in-Array+in_ok-values-in-Array w ↦ array_gives (around c.args.on.now) (length_in c.args.on.now) c.args.of c.args.found.now (point c.args.state.now (g.W.World.said c.args.world.now)) c.match-found.values.items c.match-found.state (g.W.World.said c.match-found.world) w.state-is (ap g.W.World.said w.world-is) w.in-Array.size w.in-Array.is w.length_of.result w.length_of.ensures (ap (λ (vs : Vec Value). vs.items) w.values-is ∙ w.in_ok-values-in-Array.ensures) | statement::declare-in-Value+in_ok-value-in-Value+in_ok-converted-in-Value+in_ok-values-in-Value w ↦ initial_gives (around c.args.on.now) (length_in c.args.on.now) c.args.of c.args.found.now (point c.args.state.now (g.W.World.said c.args.world.now)) w.in-Value.initial w.in-Value.is (point w.expression.new.state (g.W.World.said w.expression.new.world)) w.in_ok-value-in-Value.value w.in_ok-value-in-Value.ensures w.converted.result w.converted.ensures w.in_ok-converted-in-Value.field-0 w.in_ok-converted-in-Value.was c.match-found.values.items (ap (λ (vs : Vec Value). vs.items) w.values-is ∙ w.in_ok-values-in-Value.ensures) c.match-found.state (g.W.World.said c.match-found.world) w.state-is (ap g.W.World.said w.world-is) ]) c.declare.result (point c.declare.new.self (g.W.World.said c.match-found.world))
     (declare_comes c.args.of c.as_slice.result.now c.match-found.values.items (point c.match-found.state (g.W.World.said c.match-found.world)) c.declare.result c.declare.new.self c.declare.ensures.state c.declare.ensures.output c.declare.ensures.memory)
 
 pub statement::assign-returns-in_err-at : goal.statement::assign-returns-in_err-at
@@ -594,10 +592,10 @@ statement::assign-returns-in_err-value-in-Decrement g t c = leaves exit_of (chan
 
 pub statement::assign-returns-in_err-store : goal.statement::assign-returns-in_err-store
 statement::assign-returns-in_err-store g t c = leaves exit_of (change_does (around c.args.on.now) (length_in c.args.on.now) (place_meant (around c.args.on.now) c.args.found.now.place) c.args.found.now.change) (point c.args.state.now (g.W.World.said c.args.world.now)) (point c.store.new.self (g.W.World.said c.match-found.world)) c.from_residual-in_err-store.result c.in_err-store.field-0.0 c.from_residual-in_err-store.ensures.1
-    (assign_stops (around c.args.on.now) (length_in c.args.on.now) c.args.found.now.place c.args.found.now.change (point c.args.state.now (g.W.World.said c.args.world.now)) (point c.place.new.state (g.W.World.said c.place.new.world)) c.in_ok-at.at c.in_ok-at.ensures c.as_slice-name.result.now c.as_slice-name.ensures c.match-found.value (point c.match-found.state (g.W.World.said c.match-found.world)) (elim c.match-found.branch [ in-Set+in_ok-value-in-Set w ↦ change_gives (around c.args.on.now) (length_in c.args.on.now) c.as_slice-name.result.now c.in_ok-at.at c.args.found.now.change (changes.Set w.in-Set.e) w.in-Set.is (point c.place.new.state (g.W.World.said c.place.new.world)) c.match-found.value w.in_ok-value-in-Set.value w.value-is c.match-found.state w.expression.new.state w.state-is (g.W.World.said c.match-found.world) (g.W.World.said w.expression.new.world) (ap g.W.World.said w.world-is) w.in_ok-value-in-Set.ensures | in-Add+in_ok-value-in-Add w ↦ change_gives (around c.args.on.now) (length_in c.args.on.now) c.as_slice-name.result.now c.in_ok-at.at c.args.found.now.change (changes.Add w.in-Add.e) w.in-Add.is (point c.place.new.state (g.W.World.said c.place.new.world)) c.match-found.value w.in_ok-value-in-Add.value w.value-is c.match-found.state w.updated.new.state w.state-is (g.W.World.said c.match-found.world) (g.W.World.said w.updated.new.world) (ap g.W.World.said w.world-is) w.in_ok-value-in-Add.ensures | in-Subtract+in_ok-value-in-Subtract w ↦ change_gives (around c.args.on.now) (length_in c.args.on.now) c.as_slice-name.result.now c.in_ok-at.at c.args.found.now.change (changes.Subtract w.in-Subtract.e) w.in-Subtract.is (point c.place.new.state (g.W.World.said c.place.new.world)) c.match-found.value w.in_ok-value-in-Subtract.value w.value-is c.match-found.state w.updated-in-Subtract.new.state w.state-is (g.W.World.said c.match-found.world) (g.W.World.said w.updated-in-Subtract.new.world) (ap g.W.World.said w.world-is) w.in_ok-value-in-Subtract.ensures | in-Multiply+in_ok-value-in-Multiply w ↦ change_gives (around c.args.on.now) (length_in c.args.on.now) c.as_slice-name.result.now c.in_ok-at.at c.args.found.now.change (changes.Multiply w.in-Multiply.e) w.in-Multiply.is (point c.place.new.state (g.W.World.said c.place.new.world)) c.match-found.value w.in_ok-value-in-Multiply.value w.value-is c.match-found.state w.updated-in-Multiply.new.state w.state-is (g.W.World.said c.match-found.world) (g.W.World.said w.updated-in-Multiply.new.world) (ap g.W.World.said w.world-is) w.in_ok-value-in-Multiply.ensures | in-Increment+in_ok-value-in-Increment w ↦ change_gives (around c.args.on.now) (length_in c.args.on.now) c.as_slice-name.result.now c.in_ok-at.at c.args.found.now.change changes.Increment w.in-Increment.is (point c.place.new.state (g.W.World.said c.place.new.world)) c.match-found.value w.in_ok-value-in-Increment.value w.value-is c.match-found.state c.place.new.state w.state-is (g.W.World.said c.match-found.world) (g.W.World.said c.place.new.world) (ap g.W.World.said w.world-is) (step_gives (around c.args.on.now) c.as_slice-name.result.now c.in_ok-at.at operators.Add (point c.place.new.state (g.W.World.said c.place.new.world)) w.value_at.result w.value_at.ensures w.operated.result w.operated.ensures w.in_ok-value-in-Increment.value w.in_ok-value-in-Increment.was) | in-Decrement+in_ok-value-in-Decrement w ↦ change_gives (around c.args.on.now) (length_in c.args.on.now) c.as_slice-name.result.now c.in_ok-at.at c.args.found.now.change changes.Decrement w.in-Decrement.is (point c.place.new.state (g.W.World.said c.place.new.world)) c.match-found.value w.in_ok-value-in-Decrement.value w.value-is c.match-found.state c.place.new.state w.state-is (g.W.World.said c.match-found.world) (g.W.World.said c.place.new.world) (ap g.W.World.said w.world-is) (step_gives (around c.args.on.now) c.as_slice-name.result.now c.in_ok-at.at operators.Subtract (point c.place.new.state (g.W.World.said c.place.new.world)) w.value_at-in-Decrement.result w.value_at-in-Decrement.ensures w.operated-in-Decrement.result w.operated-in-Decrement.ensures w.in_ok-value-in-Decrement.value w.in_ok-value-in-Decrement.was) ]) (point c.store.new.self (g.W.World.said c.match-found.world)) c.in_err-store.field-0.0 (c.in_err-store.ensures (g.W.World.said c.match-found.world)))
+    (assign_stops (around c.args.on.now) (length_in c.args.on.now) c.args.found.now.place c.args.found.now.change (point c.args.state.now (g.W.World.said c.args.world.now)) (point c.place.new.state (g.W.World.said c.place.new.world)) c.in_ok-at.at c.in_ok-at.ensures c.as_slice-name.result.now c.as_slice-name.ensures c.match-found.value (point c.match-found.state (g.W.World.said c.match-found.world)) (elim c.match-found.branch [ statement::assign-in-Set+in_ok-value-in-Set w ↦ change_gives (around c.args.on.now) (length_in c.args.on.now) c.as_slice-name.result.now c.in_ok-at.at c.args.found.now.change (changes.Set w.in-Set.e) w.in-Set.is (point c.place.new.state (g.W.World.said c.place.new.world)) c.match-found.value w.in_ok-value-in-Set.value w.value-is c.match-found.state w.expression.new.state w.state-is (g.W.World.said c.match-found.world) (g.W.World.said w.expression.new.world) (ap g.W.World.said w.world-is) w.in_ok-value-in-Set.ensures | statement::assign-in-Add+in_ok-value-in-Add w ↦ change_gives (around c.args.on.now) (length_in c.args.on.now) c.as_slice-name.result.now c.in_ok-at.at c.args.found.now.change (changes.Add w.in-Add.e) w.in-Add.is (point c.place.new.state (g.W.World.said c.place.new.world)) c.match-found.value w.in_ok-value-in-Add.value w.value-is c.match-found.state w.updated.new.state w.state-is (g.W.World.said c.match-found.world) (g.W.World.said w.updated.new.world) (ap g.W.World.said w.world-is) w.in_ok-value-in-Add.ensures | statement::assign-in-Subtract+in_ok-value-in-Subtract w ↦ change_gives (around c.args.on.now) (length_in c.args.on.now) c.as_slice-name.result.now c.in_ok-at.at c.args.found.now.change (changes.Subtract w.in-Subtract.e) w.in-Subtract.is (point c.place.new.state (g.W.World.said c.place.new.world)) c.match-found.value w.in_ok-value-in-Subtract.value w.value-is c.match-found.state w.updated-in-Subtract.new.state w.state-is (g.W.World.said c.match-found.world) (g.W.World.said w.updated-in-Subtract.new.world) (ap g.W.World.said w.world-is) w.in_ok-value-in-Subtract.ensures | statement::assign-in-Multiply+in_ok-value-in-Multiply w ↦ change_gives (around c.args.on.now) (length_in c.args.on.now) c.as_slice-name.result.now c.in_ok-at.at c.args.found.now.change (changes.Multiply w.in-Multiply.e) w.in-Multiply.is (point c.place.new.state (g.W.World.said c.place.new.world)) c.match-found.value w.in_ok-value-in-Multiply.value w.value-is c.match-found.state w.updated-in-Multiply.new.state w.state-is (g.W.World.said c.match-found.world) (g.W.World.said w.updated-in-Multiply.new.world) (ap g.W.World.said w.world-is) w.in_ok-value-in-Multiply.ensures | statement::assign-in-Increment+in_ok-value-in-Increment w ↦ change_gives (around c.args.on.now) (length_in c.args.on.now) c.as_slice-name.result.now c.in_ok-at.at c.args.found.now.change changes.Increment w.in-Increment.is (point c.place.new.state (g.W.World.said c.place.new.world)) c.match-found.value w.in_ok-value-in-Increment.value w.value-is c.match-found.state c.place.new.state w.state-is (g.W.World.said c.match-found.world) (g.W.World.said c.place.new.world) (ap g.W.World.said w.world-is) (step_gives (around c.args.on.now) c.as_slice-name.result.now c.in_ok-at.at operators.Add (point c.place.new.state (g.W.World.said c.place.new.world)) w.value_at.result w.value_at.ensures w.operated.result w.operated.ensures w.in_ok-value-in-Increment.value w.in_ok-value-in-Increment.was) | statement::assign-in-Decrement+in_ok-value-in-Decrement w ↦ change_gives (around c.args.on.now) (length_in c.args.on.now) c.as_slice-name.result.now c.in_ok-at.at c.args.found.now.change changes.Decrement w.in-Decrement.is (point c.place.new.state (g.W.World.said c.place.new.world)) c.match-found.value w.in_ok-value-in-Decrement.value w.value-is c.match-found.state c.place.new.state w.state-is (g.W.World.said c.match-found.world) (g.W.World.said c.place.new.world) (ap g.W.World.said w.world-is) (step_gives (around c.args.on.now) c.as_slice-name.result.now c.in_ok-at.at operators.Subtract (point c.place.new.state (g.W.World.said c.place.new.world)) w.value_at-in-Decrement.result w.value_at-in-Decrement.ensures w.operated-in-Decrement.result w.operated-in-Decrement.ensures w.in_ok-value-in-Decrement.value w.in_ok-value-in-Decrement.was) ]) (point c.store.new.self (g.W.World.said c.match-found.world)) c.in_err-store.field-0.0 (c.in_err-store.ensures (g.W.World.said c.match-found.world)))
 
 pub statement::assign-returns : goal.statement::assign-returns
-statement::assign-returns g t c = assign_done (around c.args.on.now) (length_in c.args.on.now) c.args.found.now.place c.args.found.now.change (point c.args.state.now (g.W.World.said c.args.world.now)) (point c.place.new.state (g.W.World.said c.place.new.world)) c.in_ok-at.at c.in_ok-at.ensures c.as_slice-name.result.now c.as_slice-name.ensures c.match-found.value (point c.match-found.state (g.W.World.said c.match-found.world)) (elim c.match-found.branch [ in-Set+in_ok-value-in-Set w ↦ change_gives (around c.args.on.now) (length_in c.args.on.now) c.as_slice-name.result.now c.in_ok-at.at c.args.found.now.change (changes.Set w.in-Set.e) w.in-Set.is (point c.place.new.state (g.W.World.said c.place.new.world)) c.match-found.value w.in_ok-value-in-Set.value w.value-is c.match-found.state w.expression.new.state w.state-is (g.W.World.said c.match-found.world) (g.W.World.said w.expression.new.world) (ap g.W.World.said w.world-is) w.in_ok-value-in-Set.ensures | in-Add+in_ok-value-in-Add w ↦ change_gives (around c.args.on.now) (length_in c.args.on.now) c.as_slice-name.result.now c.in_ok-at.at c.args.found.now.change (changes.Add w.in-Add.e) w.in-Add.is (point c.place.new.state (g.W.World.said c.place.new.world)) c.match-found.value w.in_ok-value-in-Add.value w.value-is c.match-found.state w.updated.new.state w.state-is (g.W.World.said c.match-found.world) (g.W.World.said w.updated.new.world) (ap g.W.World.said w.world-is) w.in_ok-value-in-Add.ensures | in-Subtract+in_ok-value-in-Subtract w ↦ change_gives (around c.args.on.now) (length_in c.args.on.now) c.as_slice-name.result.now c.in_ok-at.at c.args.found.now.change (changes.Subtract w.in-Subtract.e) w.in-Subtract.is (point c.place.new.state (g.W.World.said c.place.new.world)) c.match-found.value w.in_ok-value-in-Subtract.value w.value-is c.match-found.state w.updated-in-Subtract.new.state w.state-is (g.W.World.said c.match-found.world) (g.W.World.said w.updated-in-Subtract.new.world) (ap g.W.World.said w.world-is) w.in_ok-value-in-Subtract.ensures | in-Multiply+in_ok-value-in-Multiply w ↦ change_gives (around c.args.on.now) (length_in c.args.on.now) c.as_slice-name.result.now c.in_ok-at.at c.args.found.now.change (changes.Multiply w.in-Multiply.e) w.in-Multiply.is (point c.place.new.state (g.W.World.said c.place.new.world)) c.match-found.value w.in_ok-value-in-Multiply.value w.value-is c.match-found.state w.updated-in-Multiply.new.state w.state-is (g.W.World.said c.match-found.world) (g.W.World.said w.updated-in-Multiply.new.world) (ap g.W.World.said w.world-is) w.in_ok-value-in-Multiply.ensures | in-Increment+in_ok-value-in-Increment w ↦ change_gives (around c.args.on.now) (length_in c.args.on.now) c.as_slice-name.result.now c.in_ok-at.at c.args.found.now.change changes.Increment w.in-Increment.is (point c.place.new.state (g.W.World.said c.place.new.world)) c.match-found.value w.in_ok-value-in-Increment.value w.value-is c.match-found.state c.place.new.state w.state-is (g.W.World.said c.match-found.world) (g.W.World.said c.place.new.world) (ap g.W.World.said w.world-is) (step_gives (around c.args.on.now) c.as_slice-name.result.now c.in_ok-at.at operators.Add (point c.place.new.state (g.W.World.said c.place.new.world)) w.value_at.result w.value_at.ensures w.operated.result w.operated.ensures w.in_ok-value-in-Increment.value w.in_ok-value-in-Increment.was) | in-Decrement+in_ok-value-in-Decrement w ↦ change_gives (around c.args.on.now) (length_in c.args.on.now) c.as_slice-name.result.now c.in_ok-at.at c.args.found.now.change changes.Decrement w.in-Decrement.is (point c.place.new.state (g.W.World.said c.place.new.world)) c.match-found.value w.in_ok-value-in-Decrement.value w.value-is c.match-found.state c.place.new.state w.state-is (g.W.World.said c.match-found.world) (g.W.World.said c.place.new.world) (ap g.W.World.said w.world-is) (step_gives (around c.args.on.now) c.as_slice-name.result.now c.in_ok-at.at operators.Subtract (point c.place.new.state (g.W.World.said c.place.new.world)) w.value_at-in-Decrement.result w.value_at-in-Decrement.ensures w.operated-in-Decrement.result w.operated-in-Decrement.ensures w.in_ok-value-in-Decrement.value w.in_ok-value-in-Decrement.was) ]) (point c.store.new.self (g.W.World.said c.match-found.world)) c.in_ok-store.field-0 (c.in_ok-store.ensures (g.W.World.said c.match-found.world))
+statement::assign-returns g t c = assign_done (around c.args.on.now) (length_in c.args.on.now) c.args.found.now.place c.args.found.now.change (point c.args.state.now (g.W.World.said c.args.world.now)) (point c.place.new.state (g.W.World.said c.place.new.world)) c.in_ok-at.at c.in_ok-at.ensures c.as_slice-name.result.now c.as_slice-name.ensures c.match-found.value (point c.match-found.state (g.W.World.said c.match-found.world)) (elim c.match-found.branch [ statement::assign-in-Set+in_ok-value-in-Set w ↦ change_gives (around c.args.on.now) (length_in c.args.on.now) c.as_slice-name.result.now c.in_ok-at.at c.args.found.now.change (changes.Set w.in-Set.e) w.in-Set.is (point c.place.new.state (g.W.World.said c.place.new.world)) c.match-found.value w.in_ok-value-in-Set.value w.value-is c.match-found.state w.expression.new.state w.state-is (g.W.World.said c.match-found.world) (g.W.World.said w.expression.new.world) (ap g.W.World.said w.world-is) w.in_ok-value-in-Set.ensures | statement::assign-in-Add+in_ok-value-in-Add w ↦ change_gives (around c.args.on.now) (length_in c.args.on.now) c.as_slice-name.result.now c.in_ok-at.at c.args.found.now.change (changes.Add w.in-Add.e) w.in-Add.is (point c.place.new.state (g.W.World.said c.place.new.world)) c.match-found.value w.in_ok-value-in-Add.value w.value-is c.match-found.state w.updated.new.state w.state-is (g.W.World.said c.match-found.world) (g.W.World.said w.updated.new.world) (ap g.W.World.said w.world-is) w.in_ok-value-in-Add.ensures | statement::assign-in-Subtract+in_ok-value-in-Subtract w ↦ change_gives (around c.args.on.now) (length_in c.args.on.now) c.as_slice-name.result.now c.in_ok-at.at c.args.found.now.change (changes.Subtract w.in-Subtract.e) w.in-Subtract.is (point c.place.new.state (g.W.World.said c.place.new.world)) c.match-found.value w.in_ok-value-in-Subtract.value w.value-is c.match-found.state w.updated-in-Subtract.new.state w.state-is (g.W.World.said c.match-found.world) (g.W.World.said w.updated-in-Subtract.new.world) (ap g.W.World.said w.world-is) w.in_ok-value-in-Subtract.ensures | statement::assign-in-Multiply+in_ok-value-in-Multiply w ↦ change_gives (around c.args.on.now) (length_in c.args.on.now) c.as_slice-name.result.now c.in_ok-at.at c.args.found.now.change (changes.Multiply w.in-Multiply.e) w.in-Multiply.is (point c.place.new.state (g.W.World.said c.place.new.world)) c.match-found.value w.in_ok-value-in-Multiply.value w.value-is c.match-found.state w.updated-in-Multiply.new.state w.state-is (g.W.World.said c.match-found.world) (g.W.World.said w.updated-in-Multiply.new.world) (ap g.W.World.said w.world-is) w.in_ok-value-in-Multiply.ensures | statement::assign-in-Increment+in_ok-value-in-Increment w ↦ change_gives (around c.args.on.now) (length_in c.args.on.now) c.as_slice-name.result.now c.in_ok-at.at c.args.found.now.change changes.Increment w.in-Increment.is (point c.place.new.state (g.W.World.said c.place.new.world)) c.match-found.value w.in_ok-value-in-Increment.value w.value-is c.match-found.state c.place.new.state w.state-is (g.W.World.said c.match-found.world) (g.W.World.said c.place.new.world) (ap g.W.World.said w.world-is) (step_gives (around c.args.on.now) c.as_slice-name.result.now c.in_ok-at.at operators.Add (point c.place.new.state (g.W.World.said c.place.new.world)) w.value_at.result w.value_at.ensures w.operated.result w.operated.ensures w.in_ok-value-in-Increment.value w.in_ok-value-in-Increment.was) | statement::assign-in-Decrement+in_ok-value-in-Decrement w ↦ change_gives (around c.args.on.now) (length_in c.args.on.now) c.as_slice-name.result.now c.in_ok-at.at c.args.found.now.change changes.Decrement w.in-Decrement.is (point c.place.new.state (g.W.World.said c.place.new.world)) c.match-found.value w.in_ok-value-in-Decrement.value w.value-is c.match-found.state c.place.new.state w.state-is (g.W.World.said c.match-found.world) (g.W.World.said c.place.new.world) (ap g.W.World.said w.world-is) (step_gives (around c.args.on.now) c.as_slice-name.result.now c.in_ok-at.at operators.Subtract (point c.place.new.state (g.W.World.said c.place.new.world)) w.value_at-in-Decrement.result w.value_at-in-Decrement.ensures w.operated-in-Decrement.result w.operated-in-Decrement.ensures w.in_ok-value-in-Decrement.value w.in_ok-value-in-Decrement.was) ]) (point c.store.new.self (g.W.World.said c.match-found.world)) c.in_ok-store.field-0 (c.in_ok-store.ensures (g.W.World.said c.match-found.world))
 
 pub statement::updated-returns-in_err-value : goal.statement::updated-returns-in_err-value
 statement::updated-returns-in_err-value g t c = leaves same (new_value (around c.args.on.now) c.args.name.now c.args.at c.args.operator (value (around c.args.on.now) c.args.right.now)) (point c.args.state.now (g.W.World.said c.args.world.now)) (point c.expression.new.state (g.W.World.said c.expression.new.world)) c.from_residual.result c.in_err-value.field-0.0 c.from_residual.ensures.1
