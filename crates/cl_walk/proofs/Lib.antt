@@ -21,3 +21,6 @@ pub mod LiveCalls
 pub mod Values
 pub mod Demanded
 pub mod Processes
+pub mod Calling
+pub mod Assigning
+pub mod Declaring

@@ -105,7 +105,7 @@ module _ (on : Context) (field : LiveField) (number : ℕ) (arguments : Room Val
   unfolding part_does called_at pure
   part_unknown p found = rw (is, ← found) here
 
-then_then : {A B C : Type 0} (p : Steps (A × State Variables)) (f : A → Does B) (g : B → Does C) → then_do (then_do p f) g ≡ then_do p (λ a s. then_do (f a s) g)
+pub then_then : {A B C : Type 0} (p : Steps (A × State Variables)) (f : A → Does B) (g : B → Does C) → then_do (then_do p f) g ≡ then_do p (λ a s. then_do (f a s) g)
 unfolding then_do
 then_then (Gives r) f g = refl
 then_then (Prints bytes rest) f g = ap (Prints bytes) (then_then rest f g)

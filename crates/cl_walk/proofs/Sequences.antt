@@ -1,10 +1,9 @@
 -- Parts of a list that are walked one after the other. (This project.)
-use Rattle.std.proofs.Common.{◌≡◌, ◌∙◌, ap, sym, refl, subst, ℕ, zero, suc, List, [], ◌∷◌, ◌++◌, map, length, get_or, drop, ◌<◌, ◌≤◌, ◌+◌, arith, add-one}
+use Rattle.std.proofs.Common.{◌≡◌, ◌∙◌, ap, sym, refl, subst, ℕ, suc, List, [], ◌∷◌, ◌++◌, map, length, get_or, drop, ◌<◌, ◌≤◌, ◌+◌, add-one}
 use Rattle.std.proofs.Math.Seq.{drop-cons}
 use Rattle.std.proofs.lemmas.List.{drop_all}
-use Rattle.std.specs.Prelude.{Result, Ok, Err}
-use Rattle.cl_value.specs.declared.value.Value.{Value}
-use Rattle.cl_model.specs.Doing.{Steps, Gives, then_do, pure, each, each_onto, through, ◌>>=◌}
+use Rattle.std.specs.Prelude.{Ok, Err}
+use Rattle.cl_model.specs.Doing.{Gives, then_do, pure, each, through, ◌>>=◌}
 use Rattle.cl_meaning.specs.Operations.{Does}
 use Rattle.cl_meaning.specs.Statements as meaning
 use Rattle.cl_meaning.specs.Statements.{WentOn, Broke, Continued, Returned, in_order, before}

@@ -1,14 +1,14 @@
 -- The turns of a loop. (This project.)
-use Rattle.std.proofs.Common.{◌≡◌, ap, sym, refl, subst, ℕ, zero, suc}
+use Rattle.std.proofs.Common.{◌≡◌, subst, ℕ, zero, suc}
 use Rattle.std.specs.Prelude.{Result, Ok, Err, Option, Some, None}
 use Rattle.cl_value.specs.declared.process.Trap.TheVariants.{StepLimit}
 use Rattle.cl_value.specs.declared.value.Value.{Value}
-use Rattle.cl_model.specs.Doing.{Steps, Gives, Stops, then_do, pure, trap, ticks_left, ◌>>=◌, ◌>>◌}
+use Rattle.cl_model.specs.Doing.{then_do, trap, ticks_left, ◌>>=◌}
 use Rattle.cl_meaning.specs.Operations.{Does}
 use Rattle.cl_meaning.specs.Statements as meaning
 use Rattle.cl_meaning.specs.Statements.{turn, turns, loop, do_turn, do_turns, do_loop}
 use Rattle.cl_walk.specs.declared.stop.Stop.{Stop}
-use Rattle.cl_walk.specs.declared.stop.Stop.TheVariants.{Trapped, Paused, NoMemory}
+use Rattle.cl_walk.specs.declared.stop.Stop.TheVariants.{Trapped}
 use Rattle.cl_walk.specs.declared.call.Exit.{Exit}
 use Rattle.cl_walk.specs.Views.{exit_of}
 use Rattle.cl_walk.specs.Walks.{Walks, here, Point, log_at, Comes}

@@ -1,21 +1,20 @@
 -- The values of expressions, by the values of their parts. (This project.)
-use Rattle.std.proofs.Common.{◌≡◌, ◌∙◌, ap, sym, refl, subst, ℕ, List, [], ◌∷◌, map}
-use Rattle.std.specs.Prelude.{Result, Ok, Err, Option, Some, None, option_map, length}
+use Rattle.std.proofs.Common.{◌≡◌, ◌∙◌, ap, sym, refl, subst, ℕ, List}
+use Rattle.std.specs.Prelude.{Result, Ok, Err, Some, None, option_map, length}
 use Rattle.cl_value.specs.declared.process.Trap.{Trap}
 use Rattle.cl_value.specs.declared.value.Value.{Value}
 use Rattle.cl_ast.specs.declared.tree.Literal.{Literal}
 use Rattle.cl_ast.specs.declared.tree.Expr.{Expr}
 use Rattle.cl_ast.specs.declared.tree.Expr.TheVariants as exprs
 use Rattle.cl_ast.specs.declared.tree.Place.{Place, out-Place}
-use Rattle.cl_ast.specs.declared.tree.Call.{Call, out-Call}
 use Rattle.cl_ast.specs.declared.tree.Prefix.{Prefix, out-Prefix}
-use Rattle.cl_model.specs.Doing.{Gives, Stops, Asks, then_do, pure, trap, checked, variables, each, ◌>>=◌, ◌>>◌}
+use Rattle.cl_model.specs.Doing.{Gives, Stops, Asks, then_do, pure, checked, variables, ◌>>=◌}
 use Rattle.cl_model.specs.Numbers.{number, negated, truth, is_zero}
 use Rattle.cl_meaning.specs.Operators.{literal}
 use Rattle.cl_meaning.specs.Variables.{found, element}
 use Rattle.cl_meaning.specs.Operations.{Does, place, index_of, variable, value_at}
-use Rattle.cl_meaning.specs.Expressions.{Surroundings, value, place_meant, call}
-use Rattle.cl_meaning.proofs.Equations.{of_literal, of_place, place_at, call_is, of_negate, of_not}
+use Rattle.cl_meaning.specs.Expressions.{Surroundings, value, place_meant}
+use Rattle.cl_meaning.proofs.Equations.{of_literal, of_place, place_at, of_negate, of_not}
 use Rattle.cl_walk.specs.declared.stop.Stop.{Stop}
 use Rattle.cl_walk.specs.declared.stop.Stop.TheVariants.{Trapped, Paused, NoMemory}
 use Rattle.cl_walk.specs.Walks.{Walks, here, Point, log_at, Comes, same}

@@ -1,6 +1,5 @@
 -- What an expression is walked in. (This project.)
 use Rattle.std.specs.Prelude.{ℕ, List}
-use Rattle.cl_ast.specs.declared.statement.Item.{Item}
 use Rattle.cl_ast.specs.declared.statement.Size.{Size}
 use Rattle.cl_value.specs.declared.value.Value.{Value}
 use Rattle.cl_listing.specs.Names.{Name}

@@ -15,7 +15,7 @@ ghost use Rattle.cl_walk.specs.Views.{aims_of, aim_of, scope_in};
 ghost use Rattle.cl_walk.specs.Walks.{Point, point, Comes, same};
 ghost use Rattle.cl_meaning.specs.Parts.{chain_value, link_value, field_aim, field_part, call_part};
 
-use crate::call::{gives, given_back, live_arguments, parameters};
+use crate::call::{given_back, gives, live_arguments, parameters};
 use crate::context::{Context, MAX_NESTING, deeper};
 use crate::field::{Aim, request, spawn};
 use crate::program::Callable;
@@ -123,7 +123,13 @@ pub fn call<'a, W: World>(
     ensures { Comes same (meaning.call (around on.now) found.now) (point state.old (W.said world.old)) result (point state.new (W.said world.new)) }
 {
     let values = arguments(on, world, state, nesting, found.arguments.as_slice())?;
-    enter(on, world, state, found.name.bytes.as_slice(), values.as_slice())
+    enter(
+        on,
+        world,
+        state,
+        found.name.bytes.as_slice(),
+        values.as_slice(),
+    )
 }
 
 /// A call of the function of a name with these arguments.
@@ -187,7 +193,13 @@ fn body<'a, W: World>(
     ensures { Comes same (calls.body (fixed_in on.now) (calls_in on.now) function.now (scope_in given.entry)) (point state.old (W.said world.old)) result (point state.new (W.said world.new)) }
 {
     let outer = state.with_locals(given);
-    let exit = in_order(on, world, state, nesting, function.body.statements.as_slice())?;
+    let exit = in_order(
+        on,
+        world,
+        state,
+        nesting,
+        function.body.statements.as_slice(),
+    )?;
     state.with_locals(outer);
     given_back(function, exit)
 }

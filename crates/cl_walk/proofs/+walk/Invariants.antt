@@ -1,5 +1,20 @@
 -- A walk goes down in the functions that may be active, in what may be nested, or from whole parts to smaller ones.
-use Rattle.std.proofs.Common.{◌+◌, ◌*◌}
+use Rattle.std.proofs.Common.{◌+◌, ◌*◌, map, ◌-◌}
+use Rattle.cl_meaning.specs.Expressions.{value}
+use Rattle.cl_walk.specs.Around.{around, length_in}
+use Rattle.cl_walk.specs.Walks.{point}
+use Rattle.cl_walk.proofs.Sequences.{Giving, Passing, Going}
+use Rattle.cl_meaning.specs.Parts.{link_value, field_aim, field_part}
+use Rattle.cl_walk.specs.Views.{aims_of}
+use Rattle.cl_value.specs.LiveViews.{plain_part}
+use Rattle.cl_meaning.specs.Statements.{does, WentOn, or_true, or_nothing, declarator_does}
+use Rattle.cl_ast.specs.declared.statement.While.{out-While}
+use Rattle.cl_model.specs.Doing.{pure}
+use Rattle.cl_walk.proofs.SentenceRules.{InLoop, InDo}
+use Rattle.cl_ast.specs.declared.statement.Do.{out-Do}
+use Rattle.std.specs.Prelude.{option_map}
+use Rattle.cl_ast.specs.declared.statement.For.{out-For}
+use Rattle.cl_ast.specs.declared.tree.Spanned.{Spanned}
 use Rattle.cl_walk.proofs.+walk.Given as goal
 
 abbrev pub decreases-expression::expression : goal.decreases-expression::expression
@@ -115,3 +130,33 @@ decreases-statement::in_order g l = 131072 * l.on.now.calls + 64 * l.nesting + 1
 
 abbrev pub decreases-statement::scoped : goal.decreases-statement::scoped
 decreases-statement::scoped g l = 131072 * l.on.now.calls + 64 * l.nesting + 12
+
+abbrev pub invariant-expression::arguments-loop-i : goal.invariant-expression::arguments-loop-i
+invariant-expression::arguments-loop-i g l = Giving (value (around l.on)) l.all (point l.initial.state (g.W.World.said l.initial.world)) l.values.items l.i (point l.state (g.W.World.said l.world))
+
+abbrev pub invariant-expression::links-loop-i : goal.invariant-expression::links-loop-i
+invariant-expression::links-loop-i g l = Passing (link_value (around l.on)) l.all l.initial.value (point l.initial.state (g.W.World.said l.initial.world)) l.value l.i (point l.state (g.W.World.said l.world))
+
+abbrev pub invariant-expression::aims-loop-i : goal.invariant-expression::aims-loop-i
+invariant-expression::aims-loop-i g l = Giving (field_aim (around l.on)) l.fields (point l.initial.state (g.W.World.said l.initial.world)) (aims_of l.all.items) l.i (point l.state (g.W.World.said l.world))
+
+abbrev pub invariant-expression::parts-loop-i : goal.invariant-expression::parts-loop-i
+invariant-expression::parts-loop-i g l = Giving (field_part (around l.on)) l.fields (point l.initial.state (g.W.World.said l.initial.world)) (map plain_part l.all.items) l.i (point l.state (g.W.World.said l.world))
+
+abbrev pub invariant-statement::in_order-loop-i : goal.invariant-statement::in_order-loop-i
+invariant-statement::in_order-loop-i g l = Going (does (around l.on) (length_in l.on)) l.statements (point l.initial.state (g.W.World.said l.initial.world)) l.i (point l.state (g.W.World.said l.world))
+
+abbrev pub invariant-statement::while_loop-loop : goal.invariant-statement::while_loop-loop
+invariant-statement::while_loop-loop g l = InLoop (value (around l.on) (out-While l.found).test) (does (around l.on) (length_in l.on) (out-While l.found).body) (pure WentOn) (point l.initial.state (g.W.World.said l.initial.world)) (l.most - l.counter) (point l.state (g.W.World.said l.world))
+
+abbrev pub invariant-statement::do_loop-loop : goal.invariant-statement::do_loop-loop
+invariant-statement::do_loop-loop g l = InDo (value (around l.on) (out-Do l.found).test) (does (around l.on) (length_in l.on) (out-Do l.found).body) (point l.initial.state (g.W.World.said l.initial.world)) (l.most - l.counter) (point l.state (g.W.World.said l.world))
+
+abbrev pub invariant-statement::for_turns-loop : goal.invariant-statement::for_turns-loop
+invariant-statement::for_turns-loop g l = InLoop (or_true (around l.on) (length_in l.on) (out-For l.found).test) (does (around l.on) (length_in l.on) (out-For l.found).body) (or_nothing (option_map (does (around l.on) (length_in l.on)) (out-For l.found).step)) (point l.initial.state (g.W.World.said l.initial.world)) (l.most - l.counter) (point l.state (g.W.World.said l.world))
+
+abbrev pub invariant-statement::declare_all-loop-i : goal.invariant-statement::declare_all-loop-i
+invariant-statement::declare_all-loop-i g l = Going (declarator_does (around l.on) (length_in l.on) l.of) l.all (point l.initial.state (g.W.World.said l.initial.world)) l.i (point l.state (g.W.World.said l.world))
+
+abbrev pub invariant-statement::printed-loop-i : goal.invariant-statement::printed-loop-i
+invariant-statement::printed-loop-i g l = Giving (λ (x : Spanned). value (around l.on) x.expr) l.all (point l.initial.state (g.W.World.said l.initial.world)) l.values.items l.i (point l.state (g.W.World.said l.world))
