@@ -1,2 +1,4 @@
+pub mod Equations
 pub mod Laws
 mod Rows
+pub mod Sentences

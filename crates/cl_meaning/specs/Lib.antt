@@ -7,3 +7,4 @@ pub mod Statements
 pub mod Outer
 pub mod Calls
 pub mod Process
+pub mod Parts

@@ -6,6 +6,8 @@ pub mod Laws
 pub mod Machine
 pub mod Ends
 pub mod Good
+pub mod Meaning
+pub mod Runs
 pub mod Tokens
 pub mod Small
 pub mod SmallViews

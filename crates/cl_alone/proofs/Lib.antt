@@ -1,0 +1,5 @@
+pub mod Hits
+pub mod Kept
+pub mod Demanded
+pub mod Runs
+pub mod Leavings

@@ -1,0 +1,11 @@
+pub mod Lists
+pub mod Acts
+pub mod Needs
+pub mod Moves
+pub mod Entering
+pub mod Falling
+pub mod Pieces
+pub mod Showing
+pub mod Stepping
+pub mod Fresh
+pub mod Beginning

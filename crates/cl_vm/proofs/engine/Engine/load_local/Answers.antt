@@ -1,0 +1,8 @@
+use Rattle.std.proofs.Common.{rules, refl, sym, ap, ◌∙◌, w64}
+use Rattle.std.proofs.lemmas.Int.{to_z-of_z}
+use Rattle.cl_code.specs.Machine.{Local, Global}
+use Rattle.cl_vm.proofs.Acts.{load_acts}
+use Rattle.cl_vm.proofs.engine.Engine.load_local.Goals as goal
+
+pub returns : goal.returns
+returns c = load_acts Local c.args.k c.local-n.result c.args.self.now (record c.args.self.now { memory = c.push.new.self }) c.local-n.ensures (search rules)

@@ -1,0 +1,20 @@
+//! The machine: a process of a program that is resumed with one reply after another.
+#![tactic(auto)]
+
+mod arithmetic;
+mod calls;
+mod cells;
+mod engine;
+mod memory;
+mod numbers;
+mod output;
+mod printing;
+mod starting;
+mod step;
+#[cfg(test)]
+mod tests;
+mod values;
+
+pub use engine::{Engine, Flow};
+pub use memory::Memory;
+pub use starting::Progress;
