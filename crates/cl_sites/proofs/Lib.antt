@@ -1,1 +1,4 @@
 pub mod Narrow
+pub mod PlacesOfExpressions
+pub mod PlacesOfParts
+pub mod PlacesOfTexts

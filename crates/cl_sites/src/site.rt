@@ -1,6 +1,8 @@
 ghost use Rattle.std.specs.Prelude.{◌≡◌, ◌<◌, ◌≤◌, length, map, All, IfOk};
 ghost use Rattle.cl_value.specs.Room.{Room};
 ghost use Rattle.cl_sig.specs.Views.{plain_signature};
+ghost use Rattle.cl_listing.specs.Listing.{in_items};
+ghost use Rattle.cl_listing.specs.Listed.{sites_in};
 ghost use Rattle.cl_types.specs.Findings.{seen_site, seen};
 ghost use Rattle.cl_sites.specs.Sites.{kind_of, signature_of, signatures_of};
 
@@ -80,6 +82,7 @@ fn signatures(
 /// are 2^32 distinct texts. A tree that the parser gives from a source has neither of these.
 pub fn sites(alloc: Global, typed: &Typed) -> Result<Items<Signature>, NoMemory>
     ensures sites { IfOk result (λ sites. map plain_signature sites.items ≡ signatures_of typed.now.items) }
+    ensures places { IfOk result (λ sites. map (λ s. s.place) sites.items ≡ sites_in (in_items typed.now.items)) }
     ensures few { IfOk result (λ sites. length sites.items ≤ 1024) }
     ensures filled { IfOk result (λ sites. All (λ s. 0 < length s.fields.items) sites.items) }
     ensures narrow { IfOk result (λ sites. All (λ s. length s.fields.items ≤ 16) sites.items) }

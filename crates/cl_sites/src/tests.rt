@@ -99,3 +99,102 @@ fn signatures_are_told_in_the_order_of_the_text(rt: HostRuntime) {
     assert!(rt; has_sites(rt.alloc(), three, of_three));
     assert!(rt; has_sites(rt.alloc(), b"real_main(){}", &[]));
 }
+
+/// A source that hands tasks to workers.
+const WORKERS: &[u8] = b"#define TASKS 3\n\
+    #define WORKERS 4\n\
+    int work(int w) {\n  \
+    int t, n;\n  \
+    n = 0;\n  \
+    while (1) {\n    \
+    in(\"task\", ?t);\n    \
+    if (t < 0) return n;\n    \
+    out(\"result\", t, t % 7);\n    \
+    n++;\n  \
+    }\n\
+    }\n\
+    real_main() {\n  \
+    int i, r, sum;\n  \
+    for (i = 0; i < WORKERS; i++) eval(\"worker\", work(i));\n  \
+    for (i = 0; i < TASKS; i++) out(\"task\", i);\n  \
+    sum = 0;\n  \
+    for (i = 0; i < TASKS; i++) {\n    \
+    in(\"result\", i, ?r);\n    \
+    sum += r;\n  \
+    }\n  \
+    for (i = 0; i < WORKERS; i++) out(\"task\", -1);\n  \
+    for (i = 0; i < WORKERS; i++) in(\"worker\", ?r);\n  \
+    printf(\"%d\\n\", sum);\n\
+    }\n";
+
+/// The dining philosophers.
+const PHILOSOPHERS: &[u8] = b"#include <stdio.h>\n\
+    #define NUM 5\n\
+    #define MEALS 3\n\
+    \n\
+    /* one philosopher, seat i */\n\
+    int phil(int i)\n\
+    {\n  \
+    int m;\n  \
+    for (m = 0; m < MEALS; m++) {\n    \
+    in(\"room ticket\");\n    \
+    in(\"chopstick\", i);\n    \
+    in(\"chopstick\", (i + 1) % NUM);\n    \
+    out(\"chopstick\", i);\n    \
+    out(\"chopstick\", (i + 1) % NUM);\n    \
+    out(\"room ticket\");\n  \
+    }\n  \
+    return i;\n\
+    }\n\
+    \n\
+    real_main()\n\
+    {\n  \
+    int i, r, sum;\n  \
+    for (i = 0; i < NUM; i++) {\n    \
+    out(\"chopstick\", i);\n    \
+    eval(\"phil\", phil(i));\n    \
+    if (i < NUM - 1) out(\"room ticket\");\n  \
+    }\n  \
+    sum = 0;\n  \
+    for (i = 0; i < NUM; i++) {\n    \
+    in(\"phil\", ?r);\n    \
+    sum += r;\n  \
+    }\n  \
+    printf(\"%d\\n\", sum);\n\
+    }\n";
+
+#[test]
+fn signatures_of_programs_are_told(rt: HostRuntime) {
+    let int = FieldType::Int;
+    let of_workers: &[(Kind, u32, &[Mark])] = &[
+        (Kind::In, 91, &[Constant(Text(0)), Formal(int)]),
+        (
+            Kind::Out,
+            136,
+            &[Constant(Text(1)), Actual(int), Actual(int)],
+        ),
+        (Kind::Eval, 239, &[Constant(Text(2)), Actual(int)]),
+        (Kind::Out, 294, &[Constant(Text(0)), Actual(int)]),
+        (
+            Kind::In,
+            357,
+            &[Constant(Text(1)), Actual(int), Formal(int)],
+        ),
+        (Kind::Out, 428, &[Constant(Text(0)), Constant(Int(-1))]),
+        (Kind::In, 477, &[Constant(Text(2)), Formal(int)]),
+    ];
+    assert!(rt; has_sites(rt.alloc(), WORKERS, of_workers));
+    let of_philosophers: &[(Kind, u32, &[Mark])] = &[
+        (Kind::In, 143, &[Constant(Text(0))]),
+        (Kind::In, 166, &[Constant(Text(1)), Actual(int)]),
+        (Kind::In, 190, &[Constant(Text(1)), Actual(int)]),
+        (Kind::Out, 226, &[Constant(Text(1)), Actual(int)]),
+        (Kind::Out, 251, &[Constant(Text(1)), Actual(int)]),
+        (Kind::Out, 288, &[Constant(Text(0))]),
+        (Kind::Out, 392, &[Constant(Text(1)), Actual(int)]),
+        (Kind::Eval, 417, &[Constant(Text(2)), Actual(int)]),
+        (Kind::Out, 461, &[Constant(Text(0))]),
+        (Kind::In, 530, &[Constant(Text(2)), Formal(int)]),
+    ];
+    assert!(rt; has_sites(rt.alloc(), PHILOSOPHERS, of_philosophers));
+}
