@@ -9,3 +9,5 @@ pub mod Showing
 pub mod Stepping
 pub mod Fresh
 pub mod Beginning
+pub mod Filling
+pub mod Performing

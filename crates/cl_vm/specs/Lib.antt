@@ -5,3 +5,5 @@ pub mod Runs
 pub mod Printing
 pub mod Begins
 pub mod Small
+pub mod Asking
+pub mod Asks

@@ -2,6 +2,7 @@
 #![tactic(auto)]
 
 mod arithmetic;
+mod asking;
 mod calls;
 mod cells;
 mod engine;

@@ -1,0 +1,76 @@
+-- What an operation asks for, and what follows it.
+use Rattle.std.proofs.Common.{◌≡◌, ℕ, suc, ◌≤◌, Bool, true, false, List, [], ◌∷◌, length, Some, ap, ◌∙◌, drop, append-nil}
+use Rattle.std.specs.Prelude.{ℤ, slice_get, if◌then◌else◌, Ok, Err}
+use Rattle.cl_value.specs.declared.process.Trap.{Trap}
+use Rattle.cl_value.specs.declared.process.Trap.TheVariants.{EvalDepth}
+use Rattle.cl_value.specs.Plain.{PlainReply, PlainRequest}
+use Rattle.cl_model.specs.Doing.{Checked, Steps, Stops, State, then_do, ◌>>=◌, pure, ask, trap, checked}
+use Rattle.cl_sig.specs.Signatures.{PlainSignature}
+use Rattle.cl_code.specs.Plain.{PlainProgram}
+use Rattle.cl_code.specs.Valid.{Valid}
+use Rattle.cl_code.specs.Laws.{GoesByInstructions}
+use Rattle.cl_code.specs.Following.{follows}
+use Rattle.cl_code.specs.Process.{CodeDemand, code_demand_of}
+use Rattle.cl_code.specs.Machine.{Cells, Does, Stack, Way, On, effect, follow, performs, requests, pushed, may_ask}
+use Rattle.cl_code.specs.Sites.{Field, Place, places_at, fields_of, asked, told}
+use Rattle.cl_code.specs.declared.instr.Instr.TheVariants as instrs
+use Rattle.cl_vm.specs.Engine.{Behind, state_of, onward}
+use Rattle.cl_vm.specs.Asks.{count_at, numbers_at, at_operation}
+use Rattle.cl_vm.specs.declared.engine.Engine.{Engine}
+use Rattle.cl_vm.proofs.Moves.{opened}
+use Rattle.cl_vm.proofs.Entering.{popped_is}
+
+module _ (p : PlainProgram) (valid : Valid p) (goes : GoesByInstructions) (e : Engine) (site : ℕ) (here : slice_get p.code e.place ≡ Some (instrs.Perform site)) (signature : PlainSignature) (is : slice_get p.sites site ≡ Some signature) (enough : count_at p site signature ≤ length e.memory.stack) where
+  abbrev all : List Place
+  all = places_at p site signature
+
+  abbrev count : ℕ
+  count = count_at p site signature
+
+  abbrev ns : List ℤ
+  ns = numbers_at count e
+
+  abbrev rest : Stack
+  rest = drop count e.memory.stack
+
+  -- what is done with the fields
+  abbrev asks : Checked (List Field) → Does Way
+  asks read = checked read >>= (λ fields. requests e.depth site signature (asked signature.kind fields) rest)
+
+  asks_is : effect p e.depth (instrs.Perform site) e.memory.stack (state_of e) ≡ asks (fields_of p all ns) (state_of e)
+  unfolding effect performs
+  asks_is =
+      ap (λ o. performs p e.depth site o e.memory.stack (state_of e)) is
+      ∙ ap (λ (d : Does Way). d (state_of e)) (popped_is count [] e.memory.stack (λ xs st. checked (fields_of p all xs) >>= (λ fields. requests e.depth site signature (asked signature.kind fields) st)) enough)
+      ∙ ap (λ (xs : List ℤ). asks (fields_of p all xs) (state_of e)) (append-nil ns)
+
+  abbrev demanded_behind : Behind → List PlainReply → Steps (Way × State Cells) → CodeDemand
+  demanded_behind behind replies steps = code_demand_of (then_do (then_do steps (follows p e.depth e.memory.frames (suc e.place))) behind) e.output.items replies
+
+  fields_opened : (behind : Behind) (replies : List PlainReply) (read : Checked (List Field)) → fields_of p all ns ≡ read → onward p behind e replies ≡ demanded_behind behind replies (asks read (state_of e))
+  fields_opened behind replies read r = opened p valid goes e (instrs.Perform site) here behind replies ∙ ap (demanded_behind behind replies) (asks_is ∙ ap (λ c. asks c (state_of e)) r)
+
+  pub field_stops : (t : Trap) → fields_of p all ns ≡ Err t → (behind : Behind) (replies : List PlainReply) → onward p behind e replies ≡ code_demand_of (Stops t) e.output.items replies
+  unfolding ◌>>=◌ then_do checked trap
+  field_stops t r behind replies = fields_opened behind replies (Err t) r
+
+  module _ (fields : List Field) (read : fields_of p all ns ≡ Ok fields) where
+    abbrev wanted : PlainRequest
+    wanted = record { site = site; ask = asked signature.kind fields }
+
+    -- it asks, or is too deep
+    abbrev either : Bool → Does Way
+    either test = if test then (ask wanted >>= (λ reply. pure (On (pushed (told signature reply) rest)))) else trap EvalDepth
+
+    depth_opened : (behind : Behind) (replies : List PlainReply) (test : Bool) → may_ask signature.kind e.depth ≡ test → onward p behind e replies ≡ demanded_behind behind replies (either test (state_of e))
+    unfolding ◌>>=◌ then_do checked pure requests
+    depth_opened behind replies test t = fields_opened behind replies (Ok fields) read ∙ ap (λ b. demanded_behind behind replies (either b (state_of e))) t
+
+    pub depth_stops : may_ask signature.kind e.depth ≡ false → (behind : Behind) (replies : List PlainReply) → onward p behind e replies ≡ code_demand_of (Stops EvalDepth) e.output.items replies
+    unfolding ◌>>=◌ then_do trap
+    depth_stops t behind replies = depth_opened behind replies false t
+
+    pub asks_at : may_ask signature.kind e.depth ≡ true → (behind : Behind) (replies : List PlainReply) → onward p behind e replies ≡ at_operation p behind e count signature wanted replies
+    unfolding ◌>>=◌ then_do ask pure follow
+    asks_at t behind [] = depth_opened behind [] true t
+    asks_at t behind (reply ∷ replies) = depth_opened behind (reply ∷ replies) true t
