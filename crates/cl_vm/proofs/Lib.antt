@@ -10,4 +10,5 @@ pub mod Stepping
 pub mod Fresh
 pub mod Beginning
 pub mod Filling
-pub mod Performing
+pub mod Operations
+pub mod SiteNeeds

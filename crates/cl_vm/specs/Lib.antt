@@ -7,3 +7,4 @@ pub mod Begins
 pub mod Small
 pub mod Asking
 pub mod Asks
+pub mod Counting

@@ -9,6 +9,7 @@ mod engine;
 mod memory;
 mod numbers;
 mod output;
+mod performing;
 mod printing;
 mod starting;
 mod step;
