@@ -12,3 +12,4 @@ pub mod Beginning
 pub mod Filling
 pub mod Operations
 pub mod SiteNeeds
+pub mod Replies

@@ -1,16 +1,17 @@
 -- What an operation of a valid program finds.
-use Rattle.std.proofs.Common.{◌≡◌, ℕ, ◌<◌, ◌≤◌, true, false, List, [], ◌∷◌, length, Option, Some, None, refl, sym, ap, ◌∙◌, subst, arith, ltb-true, leb-true, true≢false}
+use Rattle.std.proofs.Common.{◌≡◌, ◌+◌, ◌-◌, ℕ, ◌<◌, ◌≤◌, true, false, List, [], ◌∷◌, length, Option, Some, None, refl, sym, ap, ◌∙◌, subst, arith, ltb-true, leb-true, true≢false}
 use Rattle.std.specs.Prelude.{slice_get, nat_le}
 use Rattle.std.specs.List.{list_all}
+use Rattle.std.proofs.lemmas.Option.{slice_get_within}
 use Rattle.std.proofs.lemmas.Bool.{and_from}
 use Rattle.cl_sig.specs.Signatures.{PlainSignature}
 use Rattle.cl_sig.specs.declared.signature.Kind.{Kind}
 use Rattle.cl_sig.specs.declared.signature.Mark.{Mark}
 use Rattle.cl_sig.specs.declared.signature.Mark.TheVariants as marks
 use Rattle.cl_code.specs.Plain.{PlainProgram}
-use Rattle.cl_code.specs.Reach.{takes_at}
+use Rattle.cl_code.specs.Reach.{takes_at, gives_or_none}
 use Rattle.cl_code.specs.Rules.{is_some_up_to, is_eval, may_receive, call_is_right, field_is_right, site_is_right}
-use Rattle.cl_code.specs.Sites.{Place, places, places_at, none_or, takes}
+use Rattle.cl_code.specs.Sites.{Place, places, places_at, none_or, takes, gives}
 use Rattle.cl_code.specs.Valid.{Valid, place_is_typed, site_is_typed}
 use Rattle.cl_code.specs.Laws.{HeightsAreMet, StacksAreLow, GoesByInstructions}
 use Rattle.cl_code.specs.declared.instr.Instr.TheVariants.{Perform}
@@ -22,7 +23,7 @@ use Rattle.cl_vm.specs.Asks.{count_at}
 use Rattle.cl_vm.specs.Counting.{count_of_marks}
 use Rattle.cl_vm.specs.Runs.{Runs}
 use Rattle.cl_vm.specs.declared.engine.Engine.{Engine}
-use Rattle.cl_vm.proofs.Needs.{needs_met}
+use Rattle.cl_vm.proofs.Needs.{needs_met, code_is_short}
 
 -- ---- fields
 
@@ -102,3 +103,9 @@ module _ (p : PlainProgram) (valid : Valid p) (heights : HeightsAreMet) (stacks 
 
     pub plain_count : is_eval signature.kind ≡ false → count_at p site signature ≡ count_of_marks signature.fields
     plain_count plain = ap (λ all. takes p all) (plain_places plain) ∙ count_same p signature.fields
+
+    pub room_there : (length e.memory.stack - count_at p site signature) + gives signature ≤ e.memory.space
+    room_there = subst (λ o. (length e.memory.stack - takes_at p site o) + gives_or_none o ≤ e.memory.space) is (needs_met p valid heights stacks goes e runs (Perform site) here).space
+
+  pub place_short : e.place + 1 < 4294967296 + 1
+  place_short = let a = slice_get_within p.code e.place (Perform site) here in let b = code_is_short p valid in omega (arith, a, b)

@@ -8,3 +8,4 @@ pub mod Small
 pub mod Asking
 pub mod Asks
 pub mod Counting
+pub mod Hears

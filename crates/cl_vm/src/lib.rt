@@ -6,6 +6,7 @@ mod asking;
 mod calls;
 mod cells;
 mod engine;
+mod hearing;
 mod memory;
 mod numbers;
 mod output;

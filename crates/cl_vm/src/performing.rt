@@ -6,13 +6,16 @@ ghost use Rattle.cl_code.specs.Valid.{Valid};
 ghost use Rattle.cl_sig.specs.Views.{plain_signature};
 ghost use Rattle.cl_vm.specs.Asks.{AsksFor, IsPlain, StandsAt};
 ghost use Rattle.cl_vm.specs.Counting.{count_of_marks};
+ghost use Rattle.cl_value.specs.Plain.{PlainReply};
+ghost use Rattle.cl_vm.specs.Hears.{Heard, plain_reply};
 ghost use Rattle.cl_vm.specs.Runs.{Runs};
 
 use crate::Engine;
 use crate::asking::{Asking, operation_of};
+use crate::hearing::push_told;
 use cl_code::{Program, each_height_is_met, each_instruction_leads_on};
 use cl_sig::{Mark, Signature};
-use cl_value::NoMemory;
+use cl_value::{NoMemory, Reply};
 use std::alloc::Global;
 
 // How many numbers these fields take, of which none is a call.
@@ -61,5 +64,21 @@ impl Engine {
         let marks = signature.fields.as_slice();
         let numbers = self.memory.top(count_of(marks));
         operation_of(alloc, signature.kind, marks, numbers)
+    }
+
+    /// Goes on behind the operation at which it stands, which isn't an `eval`, with what this reply gives.
+    pub(crate) fn hear(&mut self, program: &Program, site: u32, reply: &Reply)
+        requires runs { Runs (plain_program program.now) self.old }
+        requires here { StandsAt (plain_program program.now) site self.old }
+        requires plain { IsPlain (plain_program program.now) site }
+        ensures { (told : PlainReply) → plain_reply reply.now ≡ Some told → Heard (plain_program program.now) site told self.old self.new }
+    {
+        each_height_is_met();
+        each_instruction_leads_on();
+        let signature = self.site_of(program, site);
+        let marks = signature.fields.as_slice();
+        self.memory.drop_top(count_of(marks));
+        push_told(&mut self.memory, signature.kind, marks, reply);
+        self.place += 1;
     }
 }

@@ -1,0 +1,33 @@
+-- What is pushed after a reply, and where an engine then stands. (This project.)
+use Rattle.std.specs.Prelude.{◌≡◌, ℕ, List, slice_get, Option, Some, None, ℤ}
+use Rattle.cl_value.specs.Plain.{PlainReply, Done, Got, Miss}
+use Rattle.cl_value.specs.declared.process.Reply.{Reply}
+use Rattle.cl_value.specs.declared.process.Reply.TheVariants as replies
+use Rattle.cl_sig.specs.Signatures.{PlainSignature}
+use Rattle.cl_sig.specs.declared.signature.Kind.{Kind}
+use Rattle.cl_sig.specs.declared.signature.Mark.{Mark}
+use Rattle.cl_code.specs.Plain.{PlainProgram}
+use Rattle.cl_code.specs.Machine.{pushed}
+use Rattle.cl_code.specs.Sites.{told}
+use Rattle.cl_vm.specs.Memory.{Memory}
+use Rattle.cl_vm.specs.Asks.{count_at, told_engine}
+use Rattle.cl_vm.specs.declared.engine.Engine.{Engine}
+
+-- numbers are pushed in order
+abbrev pub with_all : List ℤ → Memory → Memory
+with_all ns m = record m { stack = pushed ns m.stack }
+
+-- none where it begins
+abbrev pub plain_reply : Reply → Option PlainReply
+plain_reply replies.Begin = None
+plain_reply replies.Done = Some Done
+plain_reply (replies.Got tuple) = Some (Got tuple.items)
+plain_reply replies.Miss = Some Miss
+
+-- what is pushed after a reply to an operation of this kind with these fields
+abbrev pub told_of : Kind → List Mark → PlainReply → List ℤ
+told_of kind marks reply = told (record { kind = kind; fields = marks; place = 0 }) reply
+
+-- it stands behind the operation, with the numbers that it was told
+abbrev pub Heard : PlainProgram → ℕ → PlainReply → Engine → Engine → Type 0
+Heard p site reply old new = (signature : PlainSignature) → slice_get p.sites site ≡ Some signature → new ≡ told_engine (count_at p site signature) signature reply old
