@@ -7,7 +7,7 @@ ghost use Rattle.cl_sig.specs.Views.{plain_signature};
 ghost use Rattle.cl_vm.specs.Asks.{AsksFor, IsPlain, StandsAt};
 ghost use Rattle.cl_vm.specs.Counting.{count_of_marks};
 ghost use Rattle.cl_value.specs.Plain.{PlainReply};
-ghost use Rattle.cl_vm.specs.Hears.{Heard, plain_reply};
+ghost use Rattle.cl_vm.specs.Hears.{Fits, Heard, plain_reply};
 ghost use Rattle.cl_vm.specs.Runs.{Runs};
 
 use crate::Engine;
@@ -71,7 +71,8 @@ impl Engine {
         requires runs { Runs (plain_program program.now) self.old }
         requires here { StandsAt (plain_program program.now) site self.old }
         requires plain { IsPlain (plain_program program.now) site }
-        ensures { (told : PlainReply) → plain_reply reply.now ≡ Some told → Heard (plain_program program.now) site told self.old self.new }
+        ensures runs { (told : PlainReply) → plain_reply reply.now ≡ Some told → Fits (plain_program program.now) site told self.old → Runs (plain_program program.now) self.new }
+        ensures stands { (told : PlainReply) → plain_reply reply.now ≡ Some told → Heard (plain_program program.now) site told self.old self.new }
     {
         each_height_is_met();
         each_instruction_leads_on();

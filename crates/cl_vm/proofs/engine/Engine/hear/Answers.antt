@@ -10,6 +10,9 @@ use Rattle.cl_vm.specs.Asks.{count_at, told_engine}
 use Rattle.cl_vm.specs.Counting.{count_of_marks}
 use Rattle.cl_vm.specs.Hears.{with_all, told_of}
 use Rattle.cl_vm.specs.Memory.{Memory, with_dropped}
+use Rattle.cl_vm.specs.Runs.{Runs}
+use Rattle.cl_vm.specs.declared.engine.Engine.{Engine}
+use Rattle.cl_vm.proofs.Operations.{runs_behind}
 use Rattle.cl_vm.proofs.SiteNeeds.{enough_there, few_fields, plain_count, room_there, place_short}
 use Rattle.cl_vm.proofs.engine.Engine.hear.Goals as goal
 
@@ -36,8 +39,8 @@ push_told-requires c =
 pub overflow_add-self : goal.overflow_add-self
 overflow_add-self c = let short = place_short (plain_program c.args.program.now) c.site_of-signature.ensures.valid c.each_height_is_met.ensures.heights c.each_height_is_met.ensures.stacks c.each_instruction_leads_on.ensures.steps c.args.self.now c.requires.runs c.args.site c.requires.here in omega (arith, short)
 
-pub returns : goal.returns
-returns c told is signature found =
+pub returns-clause-stands : goal.returns-clause-stands
+returns-clause-stands c told is signature found =
     let p = plain_program c.args.program.now in
     let e = c.args.self.now in
     let m = e.memory in
@@ -52,3 +55,10 @@ returns c told is signature found =
     ap (λ (x : Memory). record e { memory = x; place = e.place + 1 }) memory
     ∙ ap (λ (n : ℕ). record e { memory = with_all (told_of own.kind own.fields told) (with_dropped (count_at p c.args.site own) m); place = n }) next
     ∙ ap (λ (s : PlainSignature). told_engine (count_at p c.args.site s) s told e) (same_Some own signature (sym c.site_of-signature.ensures.is ∙ found))
+
+pub returns-clause-runs : goal.returns-clause-runs
+returns-clause-runs c told is h =
+    let p = plain_program c.args.program.now in
+    let e = c.args.self.now in
+    subst (λ (x : Engine). Runs p x) (sym (returns-clause-stands c told is h.signature h.is))
+    (runs_behind p c.site_of-signature.ensures.valid c.each_instruction_leads_on.ensures.steps e c.args.site c.requires.here h.signature h.is (enough_there (plain_program c.args.program.now) c.site_of-signature.ensures.valid c.each_height_is_met.ensures.heights c.each_height_is_met.ensures.stacks c.each_instruction_leads_on.ensures.steps c.args.self.now c.requires.runs c.args.site c.requires.here h.signature h.is) h.ask h.asks told h.fit c.requires.runs)
