@@ -1,14 +1,14 @@
 -- What the functions of an engine do is what an instruction does with the stack.
-use Rattle.std.proofs.Common.{◌≡◌, ℕ, List, [], ◌∷◌, Option, Some, None, length, ◌+◌, ◌-◌, ◌<◌, ◌≤◌, refl, sym, ap, ◌∙◌, subst}
+use Rattle.std.proofs.Common.{◌≡◌, ℕ, List, ◌∷◌, Option, Some, length, ◌+◌, ◌-◌, ◌<◌, ◌≤◌, refl, sym, ap, ◌∙◌, subst}
 use Rattle.std.proofs.lemmas.Bool.{lt-ltb, le-leb}
 use Rattle.std.proofs.Common.{◌++◌, take, drop, arith, length-append, length-drop}
 use Rattle.std.proofs.lemmas.List.{length-take-le, length-set, length-replicate}
 use Rattle.std.specs.Prelude.{replicate}
-use Rattle.std.specs.Prelude.{ℤ, pos, Ok, Err, slice_get, slice_set, if◌then◌else◌, nat_lt, nat_le, Bool, true, false}
+use Rattle.std.specs.Prelude.{ℤ, pos, Ok, Err, slice_get, if◌then◌else◌, Bool, false}
 use Rattle.cl_value.specs.declared.process.Trap.{Trap}
-use Rattle.cl_model.specs.Doing.{Steps, Gives, Stops, State, Checked, then_do, ◌>>=◌, ◌>>◌, pure, trap, checked, variables, set_variables}
+use Rattle.cl_model.specs.Doing.{Gives, Checked, then_do, ◌>>=◌, ◌>>◌, pure, trap, checked, variables, set_variables}
 use Rattle.cl_code.specs.Arithmetic.{is_zero}
-use Rattle.cl_code.specs.Machine.{Frame, Cells, Does, Stack, Way, On, To, Where, Local, Global, cells_at, loaded, index_of, cleared, on_one, on_two, dropped, loads, puts, stores, loads_at, stores_at, checks, clears, jumps_if_zero}
+use Rattle.cl_code.specs.Machine.{Frame, Stack, On, To, Where, Local, Global, cells_at, loaded, index_of, cleared, on_one, on_two, dropped, loads, puts, stores, loads_at, stores_at, checks, clears, jumps_if_zero}
 use Rattle.cl_vm.specs.declared.engine.Engine.{Engine}
 use Rattle.cl_vm.specs.declared.engine.Flow.{Flow}
 use Rattle.cl_vm.specs.declared.engine.Flow.TheVariants as flows

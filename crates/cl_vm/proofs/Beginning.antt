@@ -1,13 +1,12 @@
 -- How a process begins at the main function.
-use Rattle.std.proofs.Common.{◌≡◌, ℕ, ◌+◌, ◌-◌, ◌*◌, ◌<◌, ◌≤◌, Bool, true, false, List, [], ◌∷◌, ◌++◌, length, Option, Some, None, refl, sym, ap, ◌∙◌, subst, arith, length-append}
+use Rattle.std.proofs.Common.{◌≡◌, ℕ, ◌+◌, ◌-◌, ◌<◌, ◌≤◌, Bool, true, false, List, [], ◌++◌, length, Option, Some, None, refl, sym, ap, ◌∙◌, subst, arith, length-append}
 use Rattle.std.proofs.Math.Path.{fun_ext}
 use Rattle.std.proofs.lemmas.Bool.{lt-ltb, le-ltb}
 use Rattle.std.proofs.lemmas.List.{length-replicate}
 use Rattle.std.specs.Prelude.{ℤ, Ok, Err, pos, slice_get, nat_lt, replicate, if◌then◌else◌}
 use Rattle.cl_value.specs.declared.value.Value.{Value}
-use Rattle.cl_value.specs.declared.process.Trap.{Trap}
 use Rattle.cl_value.specs.declared.process.Trap.TheVariants.{CellLimit}
-use Rattle.cl_value.specs.Plain.{PlainReply, PlainRequest, Main}
+use Rattle.cl_value.specs.Plain.{PlainReply, Main}
 use Rattle.cl_model.specs.Doing.{Steps, Gives, Prints, Asks, Stops, State, then_do, ◌>>=◌, ◌>>◌, pure, claim, release, checked, variables, set_variables}
 use Rattle.cl_code.specs.Plain.{PlainFunction, PlainProgram}
 use Rattle.cl_code.specs.Rules.{frame_size}
@@ -20,7 +19,7 @@ use Rattle.cl_code.specs.Machine.{Cells, Does, Ending, Frame, frame_of, set_fram
 use Rattle.cl_vm.specs.Memory.{with_more}
 use Rattle.cl_vm.specs.Engine.{Behind, state_of, onward}
 use Rattle.cl_vm.specs.Runs.{callers_of, position_of, stacked, celled, AreLow, AreSized, IsSafe, IsRoomy, Runs}
-use Rattle.cl_vm.specs.Begins.{behind_main, main_cells, AreMost, IsFresh, ComesTo, progress_of}
+use Rattle.cl_vm.specs.Begins.{behind_main, main_cells, IsFresh, ComesTo, progress_of}
 use Rattle.cl_model.specs.Numbers.{and_then}
 use Rattle.cl_model.specs.Doing.{Checked, trap}
 use Rattle.cl_vm.specs.declared.engine.Engine.{Engine}

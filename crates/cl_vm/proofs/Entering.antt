@@ -1,5 +1,5 @@
 -- What a call leads to.
-use Rattle.std.proofs.Common.{◌≡◌, ℕ, zero, suc, ◌+◌, ◌-◌, ◌*◌, ◌<◌, ◌≤◌, Bool, true, false, List, [], ◌∷◌, ◌++◌, length, Option, Some, None, refl, sym, ap, ◌∙◌, subst, arith, take, drop, append_assoc, append-nil, length-drop, length-append}
+use Rattle.std.proofs.Common.{◌≡◌, ℕ, zero, suc, ◌+◌, ◌-◌, ◌<◌, ◌≤◌, Bool, true, false, List, [], ◌∷◌, ◌++◌, length, Option, Some, None, refl, sym, ap, ◌∙◌, subst, arith, take, drop, append_assoc, append-nil, length-drop, length-append}
 use Rattle.std.specs.Prelude.{ℤ, pos, slice_get, reverse, replicate, nat_lt, ◌==◌, if◌then◌else◌}
 use Rattle.std.proofs.lemmas.List.{reverse-append, length-reverse, length-take-le, length-replicate}
 use Rattle.std.proofs.Math.Dec.{eqb-suc-zero}
@@ -12,15 +12,13 @@ use Rattle.cl_code.specs.Rules.{frame_size}
 use Rattle.cl_code.specs.Valid.{Valid}
 use Rattle.cl_code.specs.Laws.{GoesByInstructions}
 use Rattle.cl_code.specs.Following.{follows, enters}
-use Rattle.cl_code.specs.Positions.{Position, Reached, entry_of, led_to}
+use Rattle.cl_code.specs.Positions.{Reached, entry_of}
 use Rattle.cl_code.specs.Process.{CodeDemand, code_demand_of}
 use Rattle.cl_code.specs.Machine.{Cells, Does, Stack, Frame, Ending, Way, Into, effect, follow, popped, calls, frame_of, set_frame, entered_by, machine}
 use Rattle.cl_code.specs.Machine as plain
-use Rattle.cl_code.specs.declared.instr.Instr.{Instr}
 use Rattle.cl_code.specs.declared.instr.Instr.TheVariants.{Call}
-use Rattle.cl_vm.specs.Memory.{with_entered}
 use Rattle.cl_vm.specs.Engine.{Behind, state_of, onward, Led, Calls, call_traps, entered}
-use Rattle.cl_vm.specs.Runs.{callers_of, position_of, stacked, celled, AreLow, AreSized, IsRoomy, Runs, RunsOn, CanCall}
+use Rattle.cl_vm.specs.Runs.{callers_of, position_of, AreSized, IsRoomy, Runs, RunsOn, CanCall}
 use Rattle.cl_vm.specs.declared.engine.Engine.{Engine}
 use Rattle.cl_vm.specs.declared.engine.Flow.{Flow}
 use Rattle.cl_vm.specs.declared.engine.Flow.TheVariants as flows

@@ -1,23 +1,23 @@
 -- Each step brings an engine nearer to its end.
-use Rattle.std.proofs.Common.{◌≡◌, ℕ, zero, suc, ◌+◌, ◌-◌, ◌*◌, ◌<◌, ◌≤◌, Bool, true, false, List, [], ◌∷◌, length, Option, Some, None, refl, sym, ap, ◌∙◌, subst, arith, ⊎_elim, suc-mul, mul-le-mul_right}
-use Rattle.std.specs.Prelude.{ℤ, slice_get, if◌then◌else◌}
+use Rattle.std.proofs.Common.{◌≡◌, ℕ, suc, ◌+◌, ◌-◌, ◌*◌, ◌<◌, ◌≤◌, Bool, true, false, List, length, Some, sym, ap, ◌∙◌, subst, arith, ⊎_elim, suc-mul, mul-le-mul_right}
+use Rattle.std.specs.Prelude.{slice_get, if◌then◌else◌}
 use Rattle.std.proofs.lemmas.Bool.{cases_lt}
 use Rattle.std.proofs.lemmas.Option.{slice_get_within}
-use Rattle.cl_model.specs.Doing.{Steps, Gives, State}
+use Rattle.cl_model.specs.Doing.{Gives}
 use Rattle.cl_code.specs.Plain.{PlainFunction, PlainProgram}
 use Rattle.cl_code.specs.Rules.{is_tick}
 use Rattle.cl_code.specs.Valid.{Valid}
-use Rattle.cl_code.specs.Machine.{Cells, Stack, Frame, Way, On, To, Past, Over, Into, Lost, effect}
+use Rattle.cl_code.specs.Machine.{Frame, Way, On, To, Past, Over, Into, Lost, effect}
 use Rattle.cl_code.specs.declared.instr.Instr.{Instr}
-use Rattle.cl_code.specs.declared.instr.Instr.TheVariants.{Tick, Call, Return}
+use Rattle.cl_code.specs.declared.instr.Instr.TheVariants.{Tick}
 use Rattle.cl_code.proofs.Fine.{is_fine}
 use Rattle.cl_code.proofs.Keeping.{AimsBy, Keeps, keeps}
-use Rattle.cl_vm.specs.Engine.{state_of, with_number, left_with, StandsBy, IsNear, ActsAs, Ticks, Calls, Returns, entered}
-use Rattle.cl_vm.specs.Runs.{IsRoomy, RunsOn, Runs, tick_bit, distance, distance_of, Falls}
+use Rattle.cl_vm.specs.Engine.{state_of, StandsBy, IsNear, ActsAs, Ticks, Calls, Returns}
+use Rattle.cl_vm.specs.Runs.{tick_bit, distance, distance_of, Falls}
 use Rattle.cl_vm.specs.declared.engine.Engine.{Engine}
 use Rattle.cl_vm.specs.declared.engine.Flow.{Flow}
 use Rattle.cl_vm.specs.declared.engine.Flow.TheVariants as flows
-use Rattle.cl_vm.proofs.Needs.{CallFits, call_fits}
+use Rattle.cl_vm.proofs.Needs.{call_fits}
 
 -- ---- numbers
 

@@ -1,6 +1,6 @@
 -- An engine has room for the functions of its program.
-use Rattle.std.proofs.Common.{◌≡◌, ℕ, zero, suc, ◌+◌, ◌-◌, ◌*◌, ◌≤◌, List, [], ◌∷◌, length, Option, Some, None, true, refl, sym, ap, ◌∙◌, subst, arith}
-use Rattle.std.specs.Prelude.{slice_get, max, nat_le}
+use Rattle.std.proofs.Common.{◌≡◌, ℕ, zero, suc, ◌≤◌, List, [], ◌∷◌, length, Option, Some, None, true, refl, ap, arith}
+use Rattle.std.specs.Prelude.{slice_get, nat_le}
 use Rattle.std.proofs.lemmas.Option.{same_Some}
 use Rattle.cl_code.specs.Plain.{PlainFunction, PlainProgram}
 use Rattle.cl_code.specs.Rules.{has, has_no_parameters, is_some_up_to, rule_1}

@@ -9,3 +9,7 @@ pub mod Showing
 pub mod Stepping
 pub mod Fresh
 pub mod Beginning
+pub mod Filling
+pub mod Operations
+pub mod SiteNeeds
+pub mod Replies

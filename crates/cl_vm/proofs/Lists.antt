@@ -1,12 +1,12 @@
 -- What a write to the lists of a memory means for what it holds.
-use Rattle.std.proofs.Common.{◌≡◌, ℕ, suc, ◌+◌, ◌-◌, ◌<◌, ◌≤◌, List, [], ◌∷◌, ◌++◌, length, take, drop, refl, sym, ap, ◌∙◌, arith, length-take, length-drop, subst, Some, append_assoc}
+use Rattle.std.proofs.Common.{◌≡◌, ℕ, suc, ◌+◌, ◌-◌, ◌<◌, ◌≤◌, List, [], ◌∷◌, ◌++◌, length, take, drop, refl, sym, ap, ◌∙◌, arith, length-drop, subst, Some, append_assoc}
 use Rattle.std.specs.Prelude.{ℤ, pos, slice_set, reverse, replicate, vec_len, vec_capacity}
 use Rattle.std.specs.Vec.{with_item}
 use Rattle.std.proofs.lemmas.List.{take-append-drop, reverse-reverse, reverse-append, length-reverse, take-set-le, drop-set-add, drop-set-lt, take-take, take-append-le, drop-drop, drop-append-le, drop-take, length-take-le}
 use Rattle.std.specs.Global.{Vec}
 use Rattle.std.proofs.Math.Seq.{take-set-lt, drop-append_seam, drop-length, take-length}
 use Rattle.cl_code.specs.Machine.{Frame, cleared}
-use Rattle.cl_vm.specs.Memory.{Memory, with_pushed, with_local, with_global, with_cleared, with_left, with_entered, with_dropped}
+use Rattle.cl_vm.specs.Memory.{Memory, with_local, with_global, with_cleared, with_left, with_entered, with_dropped}
 use Rattle.cl_vm.specs.MemoryViews.{frames_of, memory_of, Nested, IsLaidOut, Left}
 use Rattle.cl_vm.specs.declared.memory.Waiting.{Waiting}
 use Rattle.cl_vm.specs.declared.memory.Memory.TheInside.{Inside}

@@ -1,21 +1,21 @@
 -- What an instruction did leads on: as much is demanded, and all that holds of an engine holds again.
-use Rattle.std.proofs.Common.{◌≡◌, ℕ, zero, suc, ◌+◌, ◌-◌, ◌*◌, ◌<◌, ◌≤◌, Bool, true, false, List, [], ◌∷◌, ◌++◌, length, Option, Some, None, refl, sym, ap, ◌∙◌, subst, arith, take, drop}
-use Rattle.std.specs.Prelude.{ℤ, slice_get, reverse, vec_capacity, if◌then◌else◌}
+use Rattle.std.proofs.Common.{◌≡◌, ℕ, zero, suc, ◌+◌, ◌-◌, ◌*◌, ◌<◌, ◌≤◌, List, [], ◌∷◌, length, Some, refl, sym, ap, ◌∙◌, subst, arith}
+use Rattle.std.specs.Prelude.{ℤ, slice_get, vec_capacity}
 use Rattle.std.specs.Global.{Vec}
 use Rattle.cl_value.specs.declared.process.Trap.{Trap}
 use Rattle.cl_value.specs.Plain.{PlainReply}
 use Rattle.cl_model.specs.Doing.{Steps, Gives, Stops, State, then_do, ◌>>=◌, ◌>>◌, pure, tick, counted, release, variables, set_variables}
-use Rattle.cl_code.specs.Plain.{PlainFunction, PlainProgram}
+use Rattle.cl_code.specs.Plain.{PlainProgram}
 use Rattle.cl_code.specs.Valid.{Valid}
 use Rattle.cl_code.specs.Laws.{GoesByInstructions}
-use Rattle.cl_code.specs.Following.{follows, ticks_on, enters, leaves}
-use Rattle.cl_code.specs.Positions.{Caller, Position, Reached, GoesOn, MayGive, MayLead, led_to}
-use Rattle.cl_code.specs.Process.{CodeDemand, Wrong, code_demand_of}
+use Rattle.cl_code.specs.Following.{follows, ticks_on, leaves}
+use Rattle.cl_code.specs.Positions.{Position, Reached, GoesOn, MayGive, MayLead, led_to}
+use Rattle.cl_code.specs.Process.{CodeDemand, code_demand_of}
 use Rattle.cl_code.specs.Machine.{Cells, Does, Stack, Frame, Ending, Way, On, To, Past, Over, Into, Lost, effect, follow, returns, set_frame, machine}
 use Rattle.cl_code.specs.declared.instr.Instr.{Instr}
-use Rattle.cl_code.specs.declared.instr.Instr.TheVariants.{Tick, Call, Return, Print, Perform}
+use Rattle.cl_code.specs.declared.instr.Instr.TheVariants.{Tick, Return}
 use Rattle.cl_vm.specs.Memory.{with_pushed}
-use Rattle.cl_vm.specs.Engine.{left_with, Behind, state_of, onward, with_number, StandsBy, IsNear, ActsAs, Led, Ticks, Calls, Returns, Acted}
+use Rattle.cl_vm.specs.Engine.{left_with, Behind, state_of, onward, with_number, StandsBy, IsNear, ActsAs, Led, Ticks, Returns}
 use Rattle.cl_vm.specs.Runs.{callers_of, position_of, stacked, celled, AreLow, IsSafe, IsRoomy, AreSized, Runs, RunsOn}
 use Rattle.cl_vm.specs.declared.engine.Engine.{Engine}
 use Rattle.cl_vm.specs.declared.engine.Flow.{Flow}

@@ -1,29 +1,28 @@
 -- Wherever an engine comes in a valid program, the next instruction finds what it needs.
-use Rattle.std.proofs.Common.{◌≡◌, ℕ, suc, ◌+◌, ◌-◌, ◌*◌, ◌<◌, ◌≤◌, Bool, true, false, List, [], ◌∷◌, length, Option, Some, None, refl, sym, ap, ◌∙◌, subst, arith, eqb-true, ltb-true, ltb-false, suc-mul, zero-mul, mul-le-mul_right, ⊎_elim, zero}
-use Rattle.std.specs.Prelude.{◌&&◌, ◌==◌, ℤ, slice_get, nat_lt, nat_le, if◌then◌else◌, Ok, Err}
+use Rattle.std.proofs.Common.{◌≡◌, ℕ, suc, ◌+◌, ◌-◌, ◌*◌, ◌<◌, ◌≤◌, Bool, true, false, List, [], ◌∷◌, length, Option, Some, None, refl, ap, ◌∙◌, subst, arith, eqb-true, ltb-true, ltb-false, suc-mul, zero-mul, mul-le-mul_right, ⊎_elim}
+use Rattle.std.specs.Prelude.{◌&&◌, ◌==◌, ℤ, slice_get, nat_lt, if◌then◌else◌, Ok}
 use Rattle.std.proofs.lemmas.Bool.{eqb-false, cases_lt, le-ltb, lt-leb}
 use Rattle.std.proofs.lemmas.Option.{slice_get_within, slice_get_past}
-use Rattle.cl_value.specs.Plain.{PlainReply}
 use Rattle.cl_model.specs.Doing.{Steps, Gives, State, Checked, then_do, ◌>>=◌, ◌>>◌, pure, checked, variables, set_variables}
 use Rattle.cl_sig.specs.Fields.{all_below}
 use Rattle.cl_code.specs.Plain.{PlainFunction, PlainProgram}
 use Rattle.cl_code.specs.Reach.{function_at, pops, pushes, height_behind}
-use Rattle.cl_code.specs.Formats.{Piece, pieces, count_of, pieces_or_none, count_or_none}
+use Rattle.cl_code.specs.Formats.{Piece, pieces, pieces_or_none, count_or_none}
 use Rattle.cl_code.specs.Rules.{has, frame_size, instruction_reaches, may_end, rule_1, rule_2, rule_3, rule_4, rule_5, rule_6, rule_7, rule_8, keeps_rules}
 use Rattle.cl_code.specs.Valid.{Valid}
 use Rattle.cl_code.specs.Laws.{HeightsAreMet, StacksAreLow, GoesByInstructions}
 use Rattle.cl_code.specs.Following.{follows}
 use Rattle.cl_code.specs.Positions.{Position, Reached}
-use Rattle.cl_code.specs.Process.{Wrong, code_demand_of}
-use Rattle.cl_code.specs.Machine.{Cells, Does, Stack, Frame, Way, Lost, Where, Local, Global, cells_at, loaded, index_of, effect, follow, loads, puts, stores, loads_at, stores_at, clears, calls, prints, machine}
+use Rattle.cl_code.specs.Process.{code_demand_of}
+use Rattle.cl_code.specs.Machine.{Cells, Does, Stack, Frame, Way, Lost, Where, Local, Global, cells_at, loaded, index_of, effect, follow, loads, puts, stores, loads_at, stores_at, clears, calls, prints}
 use Rattle.cl_code.specs.declared.instr.Instr.{Instr}
 use Rattle.cl_code.specs.declared.instr.Instr.TheVariants.{LoadLocal, LoadGlobal, StoreLocal, StoreGlobal, LoadLocalAt, LoadGlobalAt, StoreLocalAt, StoreGlobalAt, Clear, Jump, Return, Call, Print}
 use Rattle.cl_code.proofs.Fine.{below}
 use Rattle.cl_code.proofs.Flow.{At, enough, on_next, parameters_fit}
 use Rattle.cl_value.specs.declared.process.Trap.TheVariants.{StepLimit, CellLimit, CallDepth}
 use Rattle.cl_code.proofs.Tests.{left, right, found}
-use Rattle.cl_vm.specs.Engine.{Behind, state_of, held_at, onward, call_traps}
-use Rattle.cl_vm.specs.Runs.{position_of, IsSafe, stacked, celled, AreLow, AreSized, IsRoomy, Runs, HasFunction, CanCall, HasElement, HasCells, HasNeeds}
+use Rattle.cl_vm.specs.Engine.{state_of, held_at, call_traps}
+use Rattle.cl_vm.specs.Runs.{position_of, IsSafe, stacked, celled, AreLow, AreSized, IsRoomy, Runs, HasFunction, HasElement, HasCells, HasNeeds}
 use Rattle.cl_vm.specs.declared.engine.Engine.{Engine}
 
 -- ---- the address

@@ -1,5 +1,5 @@
 -- What printing leads to.
-use Rattle.std.proofs.Common.{◌≡◌, ℕ, suc, ◌+◌, ◌<◌, ◌≤◌, Bool, true, false, List, [], ◌∷◌, ◌++◌, length, Option, Some, None, refl, sym, ap, ◌∙◌, subst, arith, take, drop, append-nil, length-append}
+use Rattle.std.proofs.Common.{◌≡◌, ℕ, suc, ◌+◌, ◌<◌, ◌≤◌, Bool, true, false, List, [], ◌++◌, length, Some, refl, sym, ap, ◌∙◌, subst, arith, take, drop, append-nil, length-append}
 use Rattle.std.specs.Prelude.{ℤ, slice_get, reverse, nat_lt, vec_capacity, if◌then◌else◌}
 use Rattle.std.specs.Global.{Vec}
 use Rattle.std.proofs.lemmas.Bool.{lt-ltb, le-ltb}
@@ -12,11 +12,11 @@ use Rattle.cl_code.specs.Formats.{Piece, pieces, count_of, printed, pieces_or_no
 use Rattle.cl_code.specs.Valid.{Valid}
 use Rattle.cl_code.specs.Laws.{GoesByInstructions}
 use Rattle.cl_code.specs.Following.{follows}
-use Rattle.cl_code.specs.Positions.{Position, Reached, GoesOn, MayGive, MayLead, led_to}
+use Rattle.cl_code.specs.Positions.{Reached, GoesOn, MayGive}
 use Rattle.cl_code.specs.Process.{CodeDemand, code_demand_of}
 use Rattle.cl_code.specs.Machine.{Cells, Does, Stack, Way, On, effect, follow, prints, machine}
 use Rattle.cl_code.specs.declared.instr.Instr.TheVariants as instrs
-use Rattle.cl_vm.specs.Engine.{Behind, state_of, onward, Led, Shown, Shows}
+use Rattle.cl_vm.specs.Engine.{Behind, state_of, onward, Led, Shown}
 use Rattle.cl_vm.specs.Runs.{position_of, IsRoomy, Runs, RunsOn, Falls, distance_of}
 use Rattle.cl_vm.specs.declared.engine.Engine.{Engine}
 use Rattle.cl_vm.specs.declared.engine.Flow.{Flow}

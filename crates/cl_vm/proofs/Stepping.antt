@@ -1,18 +1,16 @@
 -- One instruction after another.
-use Rattle.std.proofs.Common.{◌≡◌, ◌≤◌, length, ℕ, suc, ◌+◌, ◌-◌, Some, refl, sym, ap, ◌∙◌, subst, arith}
+use Rattle.std.proofs.Common.{◌≡◌, ◌≤◌, length, ℕ, suc, ◌-◌, Some, refl, sym, ap, ◌∙◌, subst, arith}
 use Rattle.std.specs.Prelude.{slice_get}
-use Rattle.std.proofs.lemmas.Option.{same_Some}
-use Rattle.cl_code.specs.Plain.{PlainFunction, PlainProgram}
+use Rattle.cl_code.specs.Plain.{PlainProgram}
 use Rattle.cl_code.specs.Valid.{Valid}
 use Rattle.cl_code.specs.Sites.{parameters_or_none}
 use Rattle.cl_code.specs.Laws.{HeightsAreMet, StacksAreLow, GoesByInstructions}
 use Rattle.cl_code.specs.declared.instr.Instr.{Instr}
 use Rattle.cl_code.specs.declared.instr.Instr.TheVariants.{Tick, Call, Return, Print, Perform}
-use Rattle.cl_vm.specs.Engine.{Led, Acted}
-use Rattle.cl_vm.specs.Runs.{Runs, RunsOn, HasNeeds, Stepped, Leads}
+use Rattle.cl_vm.specs.Engine.{Acted}
+use Rattle.cl_vm.specs.Runs.{Runs, Stepped, Leads}
 use Rattle.cl_vm.specs.declared.engine.Engine.{Engine}
 use Rattle.cl_vm.specs.declared.engine.Flow.{Flow}
-use Rattle.cl_vm.specs.declared.engine.Flow.TheVariants as flows
 use Rattle.cl_vm.proofs.Needs.{low_enough, stack_low, needs_met}
 use Rattle.cl_vm.proofs.Moves.{acts_led, acts_runs, tick_led, tick_runs, returns_led, returns_runs}
 use Rattle.cl_vm.proofs.Falling.{acts_falls, tick_falls, call_falls, return_falls}

@@ -1,8 +1,6 @@
 -- How a process begins at the main function, and what its result means. (This project.)
-use Rattle.std.specs.Prelude.{max, ◌≡◌, ℕ, ◌+◌, ◌*◌, ◌≤◌, ◌<◌, List, [], ◌∷◌, length, slice_get, vec_capacity, Option, Some, None, pos, ℤ, Ok, Err}
+use Rattle.std.specs.Prelude.{max, ◌≡◌, ℕ, ◌+◌, ◌*◌, ◌≤◌, List, [], ◌∷◌, length, slice_get, vec_capacity, Option, Some, None, Ok, Err}
 use Rattle.cl_value.specs.declared.value.Value.{Value}
-use Rattle.cl_value.specs.declared.process.Trap.{Trap}
-use Rattle.cl_value.specs.declared.process.Trap.TheVariants.{CellLimit}
 use Rattle.cl_value.specs.Plain.{PlainReply, Main}
 use Rattle.cl_model.specs.Doing.{Checked, Stops, ◌>>=◌, ◌>>◌, pure, release, checked}
 use Rattle.cl_code.specs.Plain.{PlainFunction, PlainProgram}

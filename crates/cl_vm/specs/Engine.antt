@@ -4,7 +4,7 @@ use Rattle.cl_value.specs.declared.value.Value.{Value}
 use Rattle.cl_value.specs.declared.process.Trap.{Trap}
 use Rattle.cl_value.specs.declared.process.Trap.TheVariants.{StepLimit, CellLimit, CallDepth, OutputLimit}
 use Rattle.cl_value.specs.Plain.{PlainReply}
-use Rattle.cl_model.specs.Doing.{Steps, Gives, Stops, State, Checked, ◌>>=◌}
+use Rattle.cl_model.specs.Doing.{Gives, Stops, State, Checked, ◌>>=◌}
 use Rattle.cl_code.specs.Plain.{PlainFunction, PlainProgram}
 use Rattle.cl_code.specs.Formats.{Piece, pieces, count_of, printed}
 use Rattle.cl_code.specs.Rules.{frame_size}

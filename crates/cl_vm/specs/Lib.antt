@@ -5,3 +5,7 @@ pub mod Runs
 pub mod Printing
 pub mod Begins
 pub mod Small
+pub mod Asking
+pub mod Asks
+pub mod Counting
+pub mod Hears

@@ -1,5 +1,5 @@
 -- What the memory of a machine holds: the globals, the frame and the stack of the active function, and the frames that wait. (This project.)
-use Rattle.std.specs.Prelude.{ℕ, zero, suc, ◌+◌, ◌-◌, List, [], ◌∷◌, ◌++◌, take, drop, reverse, length, replicate, slice_set, ℤ, pos}
+use Rattle.std.specs.Prelude.{ℕ, ◌+◌, ◌-◌, List, [], ◌∷◌, ◌++◌, take, drop, reverse, length, replicate, slice_set, ℤ, pos}
 use Rattle.cl_code.specs.Machine.{Frame, cleared}
 
 pub record Memory : Type 0 where

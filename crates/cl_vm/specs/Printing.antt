@@ -1,7 +1,5 @@
 -- How a text is printed piece by piece. (This project.)
-use Rattle.std.specs.Prelude.{◌≡◌, ℕ, suc, ◌+◌, ◌<◌, ◌≤◌, ◌==◌, if◌then◌else◌, List, [], ◌∷◌, ◌++◌, length, drop, Option, Some, Bool, true, false, ℤ}
-use Rattle.std.specs.Fmt.{signed_decimal}
-use Rattle.cl_model.specs.Numbers.{byte_of}
+use Rattle.std.specs.Prelude.{◌≡◌, ℕ, ◌+◌, ◌<◌, ◌≤◌, ◌==◌, if◌then◌else◌, List, [], ◌∷◌, ◌++◌, length, drop, Some, Bool, true, false, ℤ}
 use Rattle.cl_code.specs.Formats.{Piece, Byte, Decimal, Character, pieces, count_of, printed}
 use Rattle.cl_vm.specs.declared.output.PieceKind.{PieceKind}
 use Rattle.cl_vm.specs.declared.output.PieceKind.TheVariants as kinds

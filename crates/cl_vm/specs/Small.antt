@@ -1,5 +1,5 @@
 -- Programs of one function, for tests. (This project.)
-use Rattle.std.specs.Prelude.{ℕ, List, [], ◌∷◌, ℤ, Some}
+use Rattle.std.specs.Prelude.{ℕ, List, [], ◌∷◌, Some}
 use Rattle.cl_value.specs.declared.value.FieldType.TheVariants as types
 use Rattle.cl_code.specs.Plain.{PlainProgram}
 use Rattle.cl_code.specs.declared.instr.Instr.{Instr}

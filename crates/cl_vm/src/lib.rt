@@ -2,12 +2,15 @@
 #![tactic(auto)]
 
 mod arithmetic;
+mod asking;
 mod calls;
 mod cells;
 mod engine;
+mod hearing;
 mod memory;
 mod numbers;
 mod output;
+mod performing;
 mod printing;
 mod starting;
 mod step;

@@ -1,4 +1,4 @@
-use Rattle.std.proofs.Common.{◌≡◌, ◌∙◌, ◌+◌, ◌-◌, ◌<◌, ◌≤◌, ℕ, List, ap, sym, subst, arith, drop, take, length, length-drop}
+use Rattle.std.proofs.Common.{◌+◌, ◌-◌, ◌<◌, ℕ, List, subst, arith, drop, take, length, length-drop}
 use Rattle.std.proofs.lemmas.List.{take_rest, drop-drop}
 use Rattle.cl_vm.specs.Printing.{CountsOn}
 use Rattle.cl_vm.proofs.Pieces.{IsRead, counted_on}

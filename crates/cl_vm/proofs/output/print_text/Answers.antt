@@ -1,4 +1,4 @@
-use Rattle.std.proofs.Common.{◌≡◌, ◌∙◌, ◌+◌, ◌-◌, ◌<◌, ◌≤◌, ◌++◌, ℕ, List, Bool, true, false, ap, sym, subst, arith, drop, take, length, length-drop, length-take, length-append, refl}
+use Rattle.std.proofs.Common.{◌∙◌, ◌+◌, ◌-◌, ◌<◌, ◌≤◌, ℕ, List, Bool, ap, sym, subst, arith, drop, take, length, length-drop, length-take}
 use Rattle.std.specs.Prelude.{ℤ}
 use Rattle.std.proofs.lemmas.List.{take_rest, drop-drop, take-append-le}
 use Rattle.cl_vm.specs.Printing.{PrintsOn, Added, piece_bytes, takes_of}

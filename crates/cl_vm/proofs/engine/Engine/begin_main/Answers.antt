@@ -1,4 +1,4 @@
-use Rattle.std.proofs.Common.{◌≡◌, ◌∙◌, ◌+◌, ◌<◌, ◌≤◌, ℕ, List, Some, ap, sym, subst, arith, length}
+use Rattle.std.proofs.Common.{◌≡◌, ◌∙◌, ◌+◌, ◌≤◌, ℕ, List, ap, sym, subst, arith, length}
 use Rattle.cl_code.specs.Plain.{plain_program, plain_function}
 use Rattle.cl_code.specs.Valid.{Valid}
 use Rattle.cl_code.specs.declared.parts.ProgramParts.{ProgramParts}
@@ -10,7 +10,6 @@ use Rattle.cl_code.specs.Process.{code_demand, code_demand_of}
 use Rattle.cl_model.specs.Doing.{Stops}
 use Rattle.cl_value.specs.declared.process.Trap.TheVariants.{CellLimit}
 use Rattle.cl_value.specs.Plain.{PlainReply, Main}
-use Rattle.cl_vm.specs.declared.engine.Engine.{Engine}
 use Rattle.cl_vm.specs.declared.engine.Flow.TheVariants as flows
 use Rattle.cl_vm.proofs.Fresh.{main_there}
 use Rattle.cl_vm.proofs.Beginning.{globals_stop, cells_stop, main_leads, main_runs}

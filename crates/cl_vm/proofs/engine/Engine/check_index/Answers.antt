@@ -1,6 +1,5 @@
-use Rattle.std.proofs.Common.{rules, refl, sym, ap, ◌∙◌, w64}
+use Rattle.std.proofs.Common.{rules, sym, ◌∙◌, w64}
 use Rattle.std.proofs.lemmas.Int.{to_z-of_z}
-use Rattle.cl_code.specs.Machine.{Local, Global}
 use Rattle.cl_vm.proofs.Acts.{check_acts, check_stops}
 use Rattle.cl_vm.proofs.engine.Engine.check_index.Goals as goal
 

@@ -1,6 +1,3 @@
-use Rattle.std.proofs.Common.{rules, refl, sym, ap, ◌∙◌, w64}
-use Rattle.std.proofs.lemmas.Int.{to_z-of_z}
-use Rattle.cl_code.specs.Machine.{Local, Global}
 use Rattle.cl_vm.proofs.Acts.{drop_acts}
 use Rattle.cl_vm.proofs.engine.Engine.drop_number.Goals as goal
 

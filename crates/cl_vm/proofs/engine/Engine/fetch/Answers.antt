@@ -1,4 +1,4 @@
-use Rattle.std.proofs.Common.{◌≡◌, ◌∙◌, ◌<◌, Some, ap, sym, subst, arith, length}
+use Rattle.std.proofs.Common.{◌≡◌, ◌∙◌, Some, ap, sym, subst, arith, length}
 use Rattle.std.specs.Prelude.{slice_get}
 use Rattle.cl_code.specs.Plain.{plain_program}
 use Rattle.cl_code.specs.Valid.{Valid}

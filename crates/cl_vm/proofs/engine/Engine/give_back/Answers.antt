@@ -1,7 +1,7 @@
-use Rattle.std.proofs.Common.{◌≡◌, ◌∙◌, ◌-◌, ℕ, ap, subst, w64, rules}
+use Rattle.std.proofs.Common.{◌∙◌, ◌-◌, ℕ, ap, subst, w64, rules}
 use Rattle.std.specs.Prelude.{ℤ}
 use Rattle.std.proofs.lemmas.Int.{to_z-of_z}
-use Rattle.cl_vm.specs.Memory.{Memory, with_pushed}
+use Rattle.cl_vm.specs.Memory.{with_pushed}
 use Rattle.cl_vm.specs.MemoryViews.{Left}
 use Rattle.cl_vm.proofs.Acts.{left_again}
 use Rattle.cl_vm.proofs.engine.Engine.give_back.Goals as goal

@@ -1,4 +1,4 @@
-use Rattle.std.proofs.Common.{◌≡◌, ◌∙◌, ap, sym, subst, w64, rules, refl}
+use Rattle.std.proofs.Common.{◌∙◌, ap, sym, subst, w64, rules, refl}
 use Rattle.std.specs.Prelude.{ℤ, slice_get}
 use Rattle.cl_vm.specs.Engine.{onward}
 use Rattle.cl_vm.specs.declared.engine.Engine.{Engine}

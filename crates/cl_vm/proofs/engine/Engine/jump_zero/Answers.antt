@@ -1,6 +1,4 @@
-use Rattle.std.proofs.Common.{rules, refl, sym, ap, ◌∙◌, w64}
-use Rattle.std.proofs.lemmas.Int.{to_z-of_z}
-use Rattle.cl_code.specs.Machine.{Local, Global}
+use Rattle.std.proofs.Common.{rules, refl}
 use Rattle.cl_vm.proofs.Acts.{jump_zero_goes, jump_zero_stays}
 use Rattle.cl_vm.proofs.engine.Engine.jump_zero.Goals as goal
 

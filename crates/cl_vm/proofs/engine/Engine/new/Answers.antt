@@ -1,9 +1,9 @@
-use Rattle.std.proofs.Common.{◌≡◌, ◌∙◌, ◌+◌, ◌*◌, ◌≤◌, ℕ, List, ap, sym, subst, arith, length, map, refl}
+use Rattle.std.proofs.Common.{◌≡◌, ◌∙◌, List, ap, arith, length, map, refl}
 use Rattle.std.specs.Prelude.{ℤ}
 use Rattle.cl_code.specs.Plain.{plain_program, plain_function}
 use Rattle.cl_code.specs.declared.function.Function.{Function}
-use Rattle.cl_vm.specs.Memory.{Memory, empty_memory}
-use Rattle.cl_vm.specs.Begins.{AreMost, highest_of, most_of}
+use Rattle.cl_vm.specs.Memory.{Memory}
+use Rattle.cl_vm.specs.Begins.{highest_of, most_of}
 use Rattle.cl_vm.proofs.Fresh.{are_most}
 use Rattle.cl_vm.proofs.engine.Engine.new.Goals as goal
 

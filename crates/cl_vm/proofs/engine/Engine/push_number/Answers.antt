@@ -1,6 +1,4 @@
-use Rattle.std.proofs.Common.{rules, refl, sym, ap, ◌∙◌, w64}
-use Rattle.std.proofs.lemmas.Int.{to_z-of_z}
-use Rattle.cl_code.specs.Machine.{Local, Global}
+use Rattle.std.proofs.Common.{rules}
 use Rattle.cl_vm.proofs.Acts.{push_acts}
 use Rattle.cl_vm.proofs.engine.Engine.push_number.Goals as goal
 

@@ -1,8 +1,4 @@
-use Rattle.std.proofs.Common.{rules, refl}
-use Rattle.std.specs.Prelude.{Ok, pos, int_lt, not}
-use Rattle.std.specs.Ordering.{int_eq}
-use Rattle.cl_code.specs.Arithmetic.{truth, is_zero, is_at_most}
-use Rattle.cl_model.specs.Numbers.{byte_of}
+use Rattle.std.proofs.Common.{rules}
 use Rattle.cl_vm.proofs.Acts.{two_acts}
 use Rattle.cl_vm.proofs.engine.Engine.rem_int.Goals as goal
 

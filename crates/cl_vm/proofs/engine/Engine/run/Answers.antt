@@ -1,6 +1,5 @@
-use Rattle.std.proofs.Common.{◌≡◌, ◌∙◌, ap, sym, subst, refl}
+use Rattle.std.proofs.Common.{subst, refl}
 use Rattle.cl_code.specs.Plain.{plain_program}
-use Rattle.cl_vm.specs.Engine.{Led}
 use Rattle.cl_vm.specs.Runs.{Stepped}
 use Rattle.cl_vm.specs.declared.engine.Flow.{Flow}
 use Rattle.cl_vm.proofs.Stepping.{leads_on}

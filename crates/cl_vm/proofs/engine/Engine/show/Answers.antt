@@ -1,10 +1,9 @@
-use Rattle.std.proofs.Common.{◌≡◌, ◌∙◌, ◌≤◌, ℕ, List, Bool, true, false, Some, refl, ap, sym, subst, take, drop}
-use Rattle.std.specs.Prelude.{ℤ, reverse, slice_get}
+use Rattle.std.proofs.Common.{◌≡◌, ◌∙◌, ℕ, List, Bool, true, false, Some, refl, ap, sym, subst, take}
+use Rattle.std.specs.Prelude.{ℤ, reverse}
 use Rattle.std.proofs.lemmas.Option.{same_Some}
 use Rattle.cl_code.specs.Formats.{pieces, count_of, printed}
 use Rattle.cl_vm.specs.Memory.{Memory, with_dropped}
 use Rattle.cl_vm.specs.Printing.{Prints, Added}
-use Rattle.cl_vm.specs.declared.engine.Engine.{Engine}
 use Rattle.cl_vm.proofs.engine.Engine.show.Goals as goal
 
 pub returns-then-not-done : goal.returns-then-not-done

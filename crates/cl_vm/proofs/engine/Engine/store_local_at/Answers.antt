@@ -1,6 +1,6 @@
-use Rattle.std.proofs.Common.{rules, refl, sym, ap, ◌∙◌, w64}
+use Rattle.std.proofs.Common.{rules, sym, ◌∙◌, w64}
 use Rattle.std.proofs.lemmas.Int.{to_z-of_z}
-use Rattle.cl_code.specs.Machine.{Local, Global}
+use Rattle.cl_code.specs.Machine.{Local}
 use Rattle.cl_vm.proofs.Acts.{store_at_acts, store_at_stops}
 use Rattle.cl_vm.proofs.engine.Engine.store_local_at.Goals as goal
 

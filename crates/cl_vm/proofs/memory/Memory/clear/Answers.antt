@@ -1,4 +1,4 @@
-use Rattle.std.proofs.Common.{◌≡◌, ◌∙◌, ◌≤◌, ◌+◌, ap, arith, length, length-drop}
+use Rattle.std.proofs.Common.{◌∙◌, ◌≤◌, ◌+◌, ap, arith, length, length-drop}
 use Rattle.cl_vm.specs.Memory.{Memory, with_cleared}
 use Rattle.cl_vm.proofs.Lists.{cleared_is}
 use Rattle.cl_vm.proofs.memory.Memory.clear.Goals as goal

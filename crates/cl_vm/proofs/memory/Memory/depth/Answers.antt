@@ -1,4 +1,4 @@
-use Rattle.std.proofs.Common.{◌∙◌, ap, sym, length}
+use Rattle.std.proofs.Common.{◌∙◌, ap, length}
 use Rattle.cl_vm.specs.Memory.{Memory}
 use Rattle.cl_vm.proofs.Lists.{depth_is}
 use Rattle.cl_vm.proofs.memory.Memory.depth.Goals as goal

@@ -1,4 +1,4 @@
-use Rattle.std.proofs.Common.{◌≡◌, ◌∙◌, ◌≤◌, ◌-◌, ℕ, List, ap, sym, subst, length, drop, take}
+use Rattle.std.proofs.Common.{◌∙◌, ◌≤◌, ◌-◌, ℕ, ap, sym, subst, length, take}
 use Rattle.cl_vm.specs.Memory.{Memory, with_dropped}
 use Rattle.cl_vm.specs.MemoryViews.{memory_of}
 use Rattle.cl_vm.proofs.Lists.{top_dropped}

@@ -1,9 +1,9 @@
-use Rattle.std.proofs.Common.{rules, ◌≡◌, ◌≤◌, ◌<◌, ◌-◌, ◌+◌, ◌++◌, ℕ, List, sym, ◌∙◌, ap, subst, length, arith, take, drop}
+use Rattle.std.proofs.Common.{rules, ◌≡◌, ◌≤◌, ◌<◌, ◌-◌, ◌+◌, ◌++◌, ℕ, List, sym, ◌∙◌, ap, subst, length, take, drop}
 use Rattle.std.specs.Prelude.{ℤ, pos, replicate, vec_len}
 use Rattle.std.proofs.lemmas.List.{take_rest}
 use Rattle.cl_vm.specs.Memory.{Memory, with_entered}
 use Rattle.cl_vm.specs.MemoryViews.{memory_of}
-use Rattle.cl_vm.proofs.Lists.{entered_is, after_enter}
+use Rattle.cl_vm.proofs.Lists.{entered_is}
 use Rattle.cl_vm.proofs.memory.Memory.enter.Goals as goal
 
 pub returns : goal.returns

@@ -1,7 +1,6 @@
-use Rattle.std.proofs.Common.{rules, sym, ◌∙◌, ap, subst, Some, Option}
+use Rattle.std.proofs.Common.{rules, subst, Some}
 use Rattle.cl_vm.specs.Memory.{Memory}
 use Rattle.cl_vm.specs.MemoryViews.{Left, memory_of}
-use Rattle.cl_vm.specs.declared.memory.Waiting.{Waiting}
 use Rattle.cl_vm.proofs.Lists.{left_is, after_leave}
 use Rattle.cl_vm.proofs.memory.Memory.leave.Goals as goal
 
