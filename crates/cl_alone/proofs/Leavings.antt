@@ -6,7 +6,7 @@ use Rattle.cl_value.specs.Tickets.{acts_in}
 use Rattle.cl_value.specs.Views.{plain_request}
 use Rattle.cl_model.specs.Demand.{Demands, Wants, Finishes, Traps}
 use Rattle.cl_model.specs.Good.{Turns}
-use Rattle.cl_model.specs.Runs.{GoodRunOf}
+use Rattle.cl_model.specs.Runs.{GoodRun}
 use Rattle.cl_walk.specs.Walks.{Told}
 use Rattle.cl_walk.specs.Walked.{AreDemanded, replies_of, IsWalk}
 use Rattle.cl_walk.specs.Endings.{outcome_of}
@@ -65,10 +65,10 @@ walk_leaves demands sites limit begun after m pause output ending end first w sa
     left_so demands m pause output ending end w.told sound said w.demanded at_last ends
 
 -- its report is good
-pub left_good : (demands : Demands) (operations limit : ℕ) (m : Moment) (output : List ℕ) (end : PlainEnd) → Leaves demands m output end → m.sites ≡ operations → m.limit ≡ limit → GoodRunOf (meant demands operations limit) Turns (run_of operations m.acts output end)
+pub left_good : (demands : Demands) (operations limit : ℕ) (m : Moment) (output : List ℕ) (end : PlainEnd) → Leaves demands m output end → m.sites ≡ operations → m.limit ≡ limit → GoodRun (meant demands operations limit) Turns (run_of operations m.acts output end)
 left_good demands operations limit m output end l sites entries =
-    subst (λ n. GoodRunOf (meant demands operations n) Turns (run_of operations m.acts output end)) entries
-    (subst (λ n. GoodRunOf (meant demands n m.limit) Turns (run_of n m.acts output end)) sites (leaves_good demands m output end l))
+    subst (λ n. GoodRun (meant demands operations n) Turns (run_of operations m.acts output end)) entries
+    (subst (λ n. GoodRun (meant demands n m.limit) Turns (run_of n m.acts output end)) sites (leaves_good demands m output end l))
 
 one_history_length : (n : ℕ) (acts : List PlainAct) → length (acts_in (one_history n acts)) ≤ length acts
 one_history_length zero acts = omega arith

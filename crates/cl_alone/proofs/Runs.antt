@@ -16,7 +16,7 @@ use Rattle.cl_model.specs.Ends.{Stuck, GoesOn, is_over, Waits, AskWaits}
 use Rattle.cl_model.specs.Good.{Turns, OutputAgrees, HistoriesAre, AllEnded, SomeWait, WithFailure, EndsAgree, some_failure, is_failure, status_of, IsHaltedBy}
 use Rattle.cl_model.specs.Machine.{Legal, Process, after, demand_of}
 use Rattle.cl_model.specs.Meaning.{Meaning, is_site_of, acts_at, WantsAt}
-use Rattle.cl_model.specs.Runs.{IsAtFull, EndIs, FullEnds, GoodReportOf, IsWithin, GoodRunOf}
+use Rattle.cl_model.specs.Runs.{IsAtFull, EndIs, FullEnds, GoodReport, IsWithin, GoodRun}
 use Rattle.cl_model.proofs.Alone.{main_after, alone, acts_of_own, names_of_own}
 use Rattle.cl_model.proofs.Bags.{Counts, counts_at_first, counts_from, holds_found, none_found}
 use Rattle.cl_model.proofs.Histories.{by_ticket_one}
@@ -102,7 +102,7 @@ module _ (demands : Demands) (m : Moment) (output : List ℕ) (outcome : Outcome
   counts : Counts (after m.acts).bag m.tuples
   counts = subst (λ ts. Counts (after m.acts).bag ts) (sym h.tuples) (counts_from _ [] m.acts h.oldest counts_at_first)
 
-  good_report : (end : PlainEnd) → EndIs (meant demands m.sites m.limit) Turns m.acts (report_of m.acts output end) (main_after (replies_in m.acts)) outcome end → FullEnds (meant demands m.sites m.limit) m.acts (main_after (replies_in m.acts)) outcome end → OutputAgrees (report_of m.acts output end) output end → GoodReportOf (meant demands m.sites m.limit) Turns m.acts (report_of m.acts output end)
+  good_report : (end : PlainEnd) → EndIs (meant demands m.sites m.limit) Turns m.acts (report_of m.acts output end) (main_after (replies_in m.acts)) outcome end → FullEnds (meant demands m.sites m.limit) m.acts (main_after (replies_in m.acts)) outcome end → OutputAgrees (report_of m.acts output end) output end → GoodReport (meant demands m.sites m.limit) Turns m.acts (report_of m.acts output end)
   good_report end agrees full says =
       record {
         process = main_after (replies_in m.acts);
@@ -115,7 +115,7 @@ module _ (demands : Demands) (m : Moment) (output : List ℕ) (outcome : Outcome
         output_is = subst (λ o. OutputAgrees (report_of m.acts output end) o end) (sym (ap (λ (d : Demand). d.output) now)) says;
       }
 
-  good_run : (end : PlainEnd) → Legal demands m.acts → GoodReportOf (meant demands m.sites m.limit) Turns m.acts (report_of m.acts output end) → EndsAgree (some_failure (report_of m.acts output end ∷ [])) demands Turns m.acts (run_of m.sites m.acts output end) → GoodRunOf (meant demands m.sites m.limit) Turns (run_of m.sites m.acts output end)
+  good_run : (end : PlainEnd) → Legal demands m.acts → GoodReport (meant demands m.sites m.limit) Turns m.acts (report_of m.acts output end) → EndsAgree (some_failure (report_of m.acts output end ∷ [])) demands Turns m.acts (run_of m.sites m.acts output end) → GoodRun (meant demands m.sites m.limit) Turns (run_of m.sites m.acts output end)
   good_run end l report ends =
       let order = by_ticket_are m.sites m.acts h.numbered h.own in
       record {
@@ -124,7 +124,7 @@ module _ (demands : Demands) (m : Moment) (output : List ℕ) (outcome : Outcome
         legal = subst (λ acts. Legal demands acts) (sym order) l;
         oldest = subst Oldest (sym order) h.oldest;
         names = sym (ap (λ acts. 0 ∷ names_made acts) order ∙ ap (λ names. 0 ∷ names) (names_of_own m.sites m.acts h.own));
-        reports = (subst (λ acts. GoodReportOf (meant demands m.sites m.limit) Turns acts (report_of m.acts output end)) (sym order) report, tt);
+        reports = (subst (λ acts. GoodReport (meant demands m.sites m.limit) Turns acts (report_of m.acts output end)) (sym order) report, tt);
         ends = subst (λ acts. EndsAgree (some_failure (report_of m.acts output end ∷ [])) demands Turns acts (run_of m.sites m.acts output end)) (sym order) ends;
       }
 
@@ -204,7 +204,7 @@ at_full demands m outcome request h counts wants full = subst (λ o. IsAtFull (m
         }
 
 -- the report of a run that leaves off so is good
-pub leaves_good : (demands : Demands) (m : Moment) (output : List ℕ) (end : PlainEnd) → Leaves demands m output end → GoodRunOf (meant demands m.sites m.limit) Turns (run_of m.sites m.acts output end)
+pub leaves_good : (demands : Demands) (m : Moment) (output : List ℕ) (end : PlainEnd) → Leaves demands m output end → GoodRun (meant demands m.sites m.limit) Turns (run_of m.sites m.acts output end)
 leaves_good demands m output (Ended values) l =
     let d = legal demands m l.history l.demanded in
     let now = l.at_last ∙ ap (λ o. record { output = output; outcome = o }) l.ends in

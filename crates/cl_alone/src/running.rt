@@ -22,7 +22,7 @@ ghost use Rattle.cl_value.specs.Room.{Room};
 ghost use Rattle.cl_value.specs.Tickets.{acts_in};
 ghost use Rattle.cl_value.specs.Views.{plain_act, plain_end, plain_history, plain_run};
 ghost use Rattle.cl_model.specs.Good.{Turns};
-ghost use Rattle.cl_model.specs.Runs.{GoodRunOf};
+ghost use Rattle.cl_model.specs.Runs.{GoodRun};
 ghost use Rattle.cl_meaning.specs.Process.{demands};
 ghost use Rattle.cl_alone.specs.Leaving as leaving;
 ghost use Rattle.cl_alone.specs.Leaving.{Leaves};
@@ -167,7 +167,7 @@ pub fn run_alone<L: Ledger>(
     entries: u32,
     steps: &mut Steps<L>,
 ) -> Result<RunReport, NoMemory>
-    ensures good { IfOk result (λ run. GoodRunOf (meaning_of unit.now.items ticks entries) Turns (plain_run run)) }
+    ensures good { IfOk result (λ run. GoodRun (meaning_of unit.now.items ticks entries) Turns (plain_run run)) }
     ensures few { IfOk result (λ run. length (acts_in (plain_run run).histories) ≤ entries) }
     ensures status { IfOk result (λ run. IsRunStatus run.status) }
 {

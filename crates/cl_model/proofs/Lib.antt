@@ -4,4 +4,3 @@ pub mod Histories
 pub mod Alone
 pub mod Laws
 pub mod Rows
-pub mod MeaningRows

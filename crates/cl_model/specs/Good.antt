@@ -1,12 +1,9 @@
--- What a report says of its run. (This project.)
-use Rattle.std.specs.Prelude.{ℕ, ◌+◌, ◌≡◌, ◌≢◌, Bool, true, false, ◌||◌, ◌⊎◌, List, [], ◌∷◌, map, Some, Contains}
+-- What the ends, the outputs and the histories of a run say of it. (This project.)
+use Rattle.std.specs.Prelude.{ℕ, ◌+◌, ◌≡◌, ◌≢◌, Bool, true, false, ◌||◌, ◌⊎◌, List, [], ◌∷◌, Contains}
 use Rattle.std.specs.List.{AllByRecursion}
 use Rattle.cl_value.specs.Plain.{PlainAct, PlainEnd, Ended, Trapped, NoThread, HistoryFull, NoMemory, Stopped, Waiting, PlainReport, PlainHistory, PlainRun}
-use Rattle.cl_value.specs.Acts.{acts_of, names_made}
-use Rattle.cl_value.specs.Replay.{Oldest}
-use Rattle.cl_value.specs.Tickets.{by_ticket}
-use Rattle.cl_model.specs.Demand.{Demands, Outcome, Finishes, Traps}
-use Rattle.cl_model.specs.Machine.{Legal, Process, after, demand_of}
+use Rattle.cl_model.specs.Demand.{Demands, Outcome, Traps}
+use Rattle.cl_model.specs.Machine.{Process}
 use Rattle.cl_model.specs.Ends.{Stuck, is_over}
 
 -- how a run was made: by threads, by turns on one thread, or by a pool of workers
@@ -20,33 +17,12 @@ pub record IsUnfinished (name : ℕ) (p : Process) (outcome : Outcome) : Type 0 
   pub no_trap : (t : _) → outcome ≢ Traps t
   pub not_over : is_over name p outcome ≡ false
 
--- the end agrees with what the process demands after its replies; no limit of acts stands yet, so that no
--- history is full
-abbrev pub EndAgrees : RunKind → PlainReport → Process → Outcome → PlainEnd → Type 0
-EndAgrees kind r p outcome (Ended values) = (outcome ≡ Finishes values) × (is_over r.name p outcome ≡ true)
-EndAgrees kind r p outcome (Trapped t) = outcome ≡ Traps t
-EndAgrees kind r p outcome NoThread = (kind ≡ Threads) × (r.acts ≡ [])
-EndAgrees kind r p outcome (HistoryFull set) = ⊥
-EndAgrees kind r p outcome NoMemory = Unit {0}
-EndAgrees kind r p outcome (Stopped by) = IsUnfinished r.name p outcome
-EndAgrees kind r p outcome Waiting = IsUnfinished r.name p outcome
-
 -- the output is what the process printed; one that was never begun printed nothing, and of one that met
 -- want of memory before its first act it may be left out
 abbrev pub OutputAgrees : PlainReport → List ℕ → PlainEnd → Type 0
 OutputAgrees r output NoThread = r.output ≡ []
 OutputAgrees r output NoMemory = (r.output ≡ output) ⊎ ((r.acts ≡ []) × (r.output ≡ []))
 OutputAgrees r output _ = r.output ≡ output
-
--- the report is that of a process of the history
-pub record GoodReport (demands : Demands) (kind : RunKind) (acts : List PlainAct) (r : PlainReport) : Type 0 where
-  pub process : Process
-  pub stands : (after acts).process r.name ≡ Some process
-  pub start : r.start ≡ process.start
-  pub acts_are : r.acts ≡ acts_of r.name acts
-  pub kids_are : r.kids ≡ names_made r.acts
-  pub end_is : EndAgrees kind r process (demand_of demands process).outcome r.end
-  pub output_is : OutputAgrees r (demand_of demands process).output r.end
 
 -- each history is that of its set, and each of its acts is at one of the set's sites
 abbrev pub HistoriesAre : ℕ → List (List ℕ) → List PlainHistory → Type 0
@@ -119,12 +95,3 @@ some_failure (r ∷ rs) = is_failure r.end || some_failure rs
 abbrev pub EndsAgree : Bool → Demands → RunKind → List PlainAct → PlainRun → Type 0
 EndsAgree true demands kind acts run = WithFailure run
 EndsAgree false demands kind acts run = WithoutFailure demands kind acts run
-
--- the report of a run of a program with this meaning, whose sets have these sites
-pub record GoodRun (demands : Demands) (sets : List (List ℕ)) (kind : RunKind) (run : PlainRun) : Type 0 where
-  pub histories : HistoriesAre 0 sets run.histories
-  pub legal : Legal demands (by_ticket run.histories)
-  pub oldest : Oldest (by_ticket run.histories)
-  pub names : map (λ r. r.name) run.reports ≡ 0 ∷ names_made (by_ticket run.histories)
-  pub reports : AllByRecursion (GoodReport demands kind (by_ticket run.histories)) run.reports
-  pub ends : EndsAgree (some_failure run.reports) demands kind (by_ticket run.histories) run

@@ -8,11 +8,4 @@ pub mod Ends
 pub mod Good
 pub mod Meaning
 pub mod Runs
-pub mod Tokens
-pub mod Small
-pub mod SmallViews
-pub mod SmallMeaning
-pub mod Commands
-pub mod Refusals
 pub mod Alone
-pub mod Places

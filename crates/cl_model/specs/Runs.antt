@@ -1,4 +1,4 @@
--- What a report says of its run, where sets have a limit of acts. (This project.)
+-- What the report of a run says of it. (This project.)
 use Rattle.std.specs.Prelude.{ℕ, ◌≡◌, ◌≤◌, true, List, [], ◌∷◌, length, map, Some}
 use Rattle.std.specs.List.{AllByRecursion}
 use Rattle.cl_value.specs.Plain.{PlainAct, PlainEnd, Ended, Trapped, NoThread, HistoryFull, NoMemory, Stopped, Waiting, PlainReport, PlainHistory, PlainRun}
@@ -33,7 +33,7 @@ FullEnds meaning acts p outcome end =
     (set : ℕ) → IsFull meaning acts set → WantsSet meaning (after acts).bag p outcome set → EndsAtFull set end
 
 -- the report is that of a process of the history
-pub record GoodReportOf (meaning : Meaning) (kind : RunKind) (acts : List PlainAct) (r : PlainReport) : Type 0 where
+pub record GoodReport (meaning : Meaning) (kind : RunKind) (acts : List PlainAct) (r : PlainReport) : Type 0 where
   pub process : Process
   pub stands : (after acts).process r.name ≡ Some process
   pub start : r.start ≡ process.start
@@ -48,11 +48,11 @@ abbrev pub IsWithin : ℕ → PlainHistory → Type 0
 IsWithin limit history = length history.acts ≤ limit
 
 -- the report of a run of a program that means this
-pub record GoodRunOf (meaning : Meaning) (kind : RunKind) (run : PlainRun) : Type 0 where
+pub record GoodRun (meaning : Meaning) (kind : RunKind) (run : PlainRun) : Type 0 where
   pub histories : HistoriesAre 0 meaning.sets run.histories
   pub within : AllByRecursion (IsWithin meaning.limit) run.histories
   pub legal : Legal meaning.demands (by_ticket run.histories)
   pub oldest : Oldest (by_ticket run.histories)
   pub names : map (λ r. r.name) run.reports ≡ 0 ∷ names_made (by_ticket run.histories)
-  pub reports : AllByRecursion (GoodReportOf meaning kind (by_ticket run.histories)) run.reports
+  pub reports : AllByRecursion (GoodReport meaning kind (by_ticket run.histories)) run.reports
   pub ends : EndsAgree (some_failure run.reports) meaning.demands kind (by_ticket run.histories) run

@@ -1,9 +1,3 @@
-//! The definitions in which the meaning of a program, the machine of a run and the printed texts are
-//! stated, and the types of the small form of a source and of refusals. It has no calls.
+//! The definitions in which the meaning of a program and the machine of a run are stated, and the laws of them.
+//! It has no types and no calls.
 #![tactic(auto)]
-
-mod refusal;
-mod small;
-
-pub use refusal::{Refusal, RefusalKind};
-pub use small::{Format, Item, Literal, Piece, SmallUnit};
