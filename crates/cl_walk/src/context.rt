@@ -34,11 +34,12 @@ impl<'w, 'a> Context<'w, 'a> {
 
 ghost use Rattle.std.specs.Prelude.{◌≡◌, ◌+◌, MatchResult};
 
-/// How deep the nested parts of a function may be walked, so that the stack has a bound. No source that the parser takes nests so deep, since each of
-/// its at most 64 nested constructs gives no more than eight levels of the tree.
-pub const MAX_NESTING: u32 = 1_024;
+/// How many parts may be walked inside one another, in all functions that are active together, so that the host's
+/// stack has a bound. One function alone never comes there: each of the at most 64 constructs that the parser takes
+/// inside one another gives no more than eight levels of the tree.
+pub const MAX_NESTING: u32 = 4_096;
 
-/// One part deeper. `NoMemory` comes where the tree nests too deep.
+/// One part deeper. `NoMemory` comes where no more may be.
 pub fn deeper(nesting: u32) -> Result<u32, Stop>
     ensures { MatchResult result (λ inner. inner + 1 ≡ nesting) (λ stop. stop ≡ Stop.NoMemory) }
 {

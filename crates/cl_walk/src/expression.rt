@@ -16,7 +16,7 @@ ghost use Rattle.cl_walk.specs.Walks.{Point, point, Comes, same};
 ghost use Rattle.cl_meaning.specs.Parts.{chain_value, link_value, field_aim, field_part, call_part};
 
 use crate::call::{given_back, gives, live_arguments, parameters};
-use crate::context::{Context, MAX_NESTING, deeper};
+use crate::context::{Context, deeper};
 use crate::field::{Aim, request, spawn};
 use crate::program::Callable;
 use crate::state::State;
@@ -127,6 +127,7 @@ pub fn call<'a, W: World>(
         on,
         world,
         state,
+        nesting,
         found.name.bytes.as_slice(),
         values.as_slice(),
     )
@@ -138,6 +139,7 @@ pub fn enter<'a, W: World>(
     on: &Context<'_, 'a>,
     world: &mut W,
     state: &mut State<'a>,
+    nesting: u32,
     name: &[u8],
     values: &[Value],
 ) -> Result<Value, Stop>
@@ -151,7 +153,7 @@ pub fn enter<'a, W: World>(
             if on.calls == 0 {
                 return Err(Stop::Trapped(Trap::CallDepth));
             }
-            run(&on.called(), world, state, MAX_NESTING, callable, given)
+            run(&on.called(), world, state, nesting, callable, given)
         }
         None => Ok(Value::Int(0)),
     }

@@ -82,6 +82,7 @@ fn part<'a, W: World>(
                 on,
                 world,
                 state,
+                MAX_NESTING,
                 found.name.bytes.as_slice(),
                 arguments.as_slice(),
             ),

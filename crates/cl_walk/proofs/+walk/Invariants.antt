@@ -21,7 +21,7 @@ abbrev pub decreases-expression::expression : goal.decreases-expression::express
 decreases-expression::expression g l = 131072 * l.on.now.calls + 64 * l.nesting + 1
 
 abbrev pub decreases-expression::enter : goal.decreases-expression::enter
-decreases-expression::enter g l = 131072 * l.on.now.calls
+decreases-expression::enter g l = 131072 * l.on.now.calls + 64 * l.nesting + 2
 
 abbrev pub decreases-expression::place : goal.decreases-expression::place
 decreases-expression::place g l = 131072 * l.on.now.calls + 64 * l.nesting + 2
