@@ -5,15 +5,15 @@ use Rattle.std.proofs.lemmas.List.{drop_all}
 use Rattle.cl_value.specs.Plain.{PlainRun}
 use Rattle.cl_outside.specs.Faults.{Rose, Quiet}
 use Rattle.cl_outside.specs.Streams.{TakesAll, GivesAll, Loses, LosesUpTo, Drops}
-use Rattle.cl_model.specs.declared.refusal.Refusal.{Refusal}
-use Rattle.cl_model.specs.Commands.{Command, Spells, most_bytes, does_run, statuses, IsListed}
-use Rattle.cl_model.specs.Refusals.{words_refused, too_large, refused}
+use Rattle.clinda.specs.declared.refusal_kind.Refusal.{Refusal}
+use Rattle.clinda.specs.Commands.{Command, Spells, most_bytes, does_run, statuses, IsListed}
+use Rattle.clinda.specs.Refusals.{words_refused, too_large, refused}
 use Rattle.clinda.specs.Saying.{Tells}
 use Rattle.clinda.specs.Making.{Program, IsProgram, Makes, HasProgram, IsRefused, Found, Made, Refused, Unfound}
 use Rattle.clinda.specs.Answering.{Outside, Says, SaysNothing, Read, Failed, Larger, NoRoom, All, Answered, NoCommand, Commanded}
-use Rattle.clinda.specs.Top.{WordsClause, ReadClause, TooLargeClause, JudgesSource, SourceClause, Writes, WrittenClause, IsSource, RunsProgram, RunClause, TellsStuck, StuckClause, StatusesClause, HaltedClause, ReadFaultClause, LostClause, WriteFaultClause, IsText, OfWords, OfLarge, OfSource, OfProgram, WritesFront, MemoryClause, Reports, ReportClause}
+use Rattle.clinda.specs.Top.{WordsClause, ReadClause, TooLargeClause, JudgesSource, SourceClause, Writes, WrittenClause, IsSource, RunsProgram, RunClause, TellsStuck, StuckClause, StatusesClause, TellsHalted, Halts, HaltedClause, ReadFaultClause, LostClause, WriteFaultClause, IsText, OfWords, OfLarge, OfSource, OfProgram, WritesFront, MemoryClause, Reports, ReportClause}
 use Rattle.clinda.specs.declared.outcome.Saying.{Saying}
-use Rattle.clinda.proofs.Makes.{spells_once, if_none, no_report, two_listed, four_listed, five_listed, eight_listed, one_unlisted, three_unlisted, six_unlisted, nine_unlisted, makes_listed, makes_none_of, makes_report, makes_no_report, makes_seven, makes_eight, makes_own, makes_good, makes_stuck, program_size}
+use Rattle.clinda.proofs.Makes.{spells_once, if_none, no_report, two_listed, four_listed, five_listed, eight_listed, one_unlisted, IsOther, Source, Reading, Writing, makes_listed, makes_halted, makes_run, makes_none_of, makes_report, makes_no_report, makes_seven, makes_eight, makes_own, makes_good, makes_stuck, program_size}
 use Rattle.clinda.proofs.Sayings.{said_status, said_kept, said_rose, said_front, said_all, said_own, said_whole}
 
 -- ---- the ways of a command
@@ -46,6 +46,25 @@ of_all (Some x) P f = f x
 -- no fault is both risen and quiet
 not_both : (f g : ℕ) → Rose f g → Quiet f g → ⊥
 not_both f g rose quiet = absurd (omega (arith, rose, quiet))
+
+-- a status that only a halt has
+pub record IsHalt (halt : ℕ) : Type 0 where
+  pub not_zero : halt ≢ 0
+  pub not_one : halt ≢ 1
+  pub not_two : halt ≢ 2
+  pub not_four : halt ≢ 4
+  pub not_five : halt ≢ 5
+  pub not_seven : halt ≢ 7
+  pub not_eight : halt ≢ 8
+
+three_halts : IsHalt 3
+three_halts = record { not_zero = λ e. absurd (omega (arith, e)); not_one = λ e. absurd (omega (arith, e)); not_two = λ e. absurd (omega (arith, e)); not_four = λ e. absurd (omega (arith, e)); not_five = λ e. absurd (omega (arith, e)); not_seven = λ e. absurd (omega (arith, e)); not_eight = λ e. absurd (omega (arith, e)) }
+
+six_halts : IsHalt 6
+six_halts = record { not_zero = λ e. absurd (omega (arith, e)); not_one = λ e. absurd (omega (arith, e)); not_two = λ e. absurd (omega (arith, e)); not_four = λ e. absurd (omega (arith, e)); not_five = λ e. absurd (omega (arith, e)); not_seven = λ e. absurd (omega (arith, e)); not_eight = λ e. absurd (omega (arith, e)) }
+
+nine_halts : IsHalt 9
+nine_halts = record { not_zero = λ e. absurd (omega (arith, e)); not_one = λ e. absurd (omega (arith, e)); not_two = λ e. absurd (omega (arith, e)); not_four = λ e. absurd (omega (arith, e)); not_five = λ e. absurd (omega (arith, e)); not_seven = λ e. absurd (omega (arith, e)); not_eight = λ e. absurd (omega (arith, e)) }
 
 module _ (c : Command) (status : ℕ) (report : Option PlainRun) (before after : Outside) where
   all_lost : (source : List ℕ) → ReadAll c source before after → LosesUpTo (most_bytes c) before.left after.left
@@ -159,7 +178,7 @@ module _ (c : Command) (status : ℕ) (report : Option PlainRun) (before after :
       of_source source (λ bytes. length bytes ≤ most_bytes c → JudgesSource c bytes status report before after) r (λ _. judges_refusal source refusal is none said)
   judges (Speaks source r program has saying makes said) quiet memory =
       of_source source (λ bytes. length bytes ≤ most_bytes c → JudgesSource c bytes status report before after) r
-      (λ _. judges_program source program has (not_said saying.status 2 (said_status said) (makes_none_of report saying c program 2 makes (λ e. absurd (omega (arith, e))) (λ e. absurd (omega (arith, e))) (λ e. absurd (omega (arith, e)))) (λ e. absurd (omega (arith, e)))))
+      (λ _. judges_program source program has (not_said saying.status 2 (said_status said) (makes_none_of report saying c program 2 makes (Source refl)) (λ e. absurd (omega (arith, e)))))
   judges (Silent source r program has saying makes eight silent) quiet memory =
       of_source source (λ bytes. length bytes ≤ most_bytes c → JudgesSource c bytes status report before after) r (λ _. judges_program source program has (λ two. absurd (omega (arith, two, eight))))
 
@@ -219,6 +238,29 @@ module _ (c : Command) (status : ℕ) (report : Option PlainRun) (before after :
   stucks (Speaks source r program has saying makes said) = some_stuck source r program has (makes_stuck report saying c program status makes (inl (said_status said)))
   stucks (Silent source r program has saying makes eight silent) = some_stuck source r program has (makes_stuck report saying c program status makes (inr eight))
 
+  halt_reports : (halt : ℕ) → IsHalt halt → Way c status report before after → status ≡ halt → IsSome report
+  halt_reports halt is (Fault four none rose lost silent) e = absurd (is.not_four (sym e ∙ four))
+  halt_reports halt is (Memory eight none kept lost silent) e = absurd (is.not_eight (sym e ∙ eight))
+  halt_reports halt is (Large loses kept none said) e = absurd (not_said 2 halt (said_status said) (λ two. is.not_two (sym two)) is.not_five e)
+  halt_reports halt is (Lacks source r refusal is_refused none said) e = absurd (not_said 2 halt (said_status said) (λ two. is.not_two (sym two)) is.not_five e)
+  halt_reports halt is (Speaks source r program has saying makes said) e =
+      elim (said_status said) [
+        | inl h ↦ makes_run report saying c program makes (λ zero. is.not_zero (sym e ∙ h ∙ zero))
+        | inr h ↦ absurd (is.not_five (sym e ∙ h))
+      ]
+  halt_reports halt is (Silent source r program has saying makes eight silent) e = absurd (is.not_eight (sym e ∙ eight))
+
+  halt_tells : (halt : ℕ) → IsHalt halt → Way c status report before after → IfSome report (TellsHalted halt status)
+  halt_tells halt is (Fault four none rose lost silent) = if_none report _ none
+  halt_tells halt is (Memory eight none kept lost silent) = if_none report _ none
+  halt_tells halt is (Large loses kept none said) = if_none report _ none
+  halt_tells halt is (Lacks source r refusal is_refused none said) = if_none report _ none
+  halt_tells halt is (Speaks source r program has saying makes said) = makes_halted report saying c program halt status makes is.not_zero is.not_five is.not_seven is.not_eight (inl (said_status said))
+  halt_tells halt is (Silent source r program has saying makes eight silent) = makes_halted report saying c program halt status makes is.not_zero is.not_five is.not_seven is.not_eight (inr eight)
+
+  halts : (halt : ℕ) → IsHalt halt → Way c status report before after → Halts halt status report
+  halts halt is way = record { reported = halt_reports halt is way; exact = halt_tells halt is way }
+
   no_reports : Way c status report before after → does_run c ≡ false → report ≡ None
   no_reports (Fault four none rose lost silent) runs_none = none
   no_reports (Memory eight none kept lost silent) runs_none = none
@@ -249,7 +291,7 @@ module _ (c : Command) (status : ℕ) (report : Option PlainRun) (before after :
   read_faults (Large loses kept none said) = unfaulted kept (not_said 2 4 (said_status said) (λ e. absurd (omega (arith, e))) (λ e. absurd (omega (arith, e))))
   read_faults (Lacks source r refusal is none said) = unfaulted r.kept (not_said 2 4 (said_status said) (λ e. absurd (omega (arith, e))) (λ e. absurd (omega (arith, e))))
   read_faults (Speaks source r program has saying makes said) =
-      unfaulted r.kept (not_said saying.status 4 (said_status said) (makes_none_of report saying c program 4 makes (λ e. absurd (omega (arith, e))) (λ e. absurd (omega (arith, e))) (λ e. absurd (omega (arith, e)))) (λ e. absurd (omega (arith, e))))
+      unfaulted r.kept (not_said saying.status 4 (said_status said) (makes_none_of report saying c program 4 makes (Reading refl)) (λ e. absurd (omega (arith, e))))
   read_faults (Silent source r program has saying makes eight silent) = unfaulted r.kept (λ four. absurd (omega (arith, four, eight)))
 
   loses_few : Way c status report before after → (status ≡ 4) ⊎ ((status ≡ 8) × (report ≡ None)) → LosesUpTo (most_bytes c) before.left after.left
@@ -270,7 +312,7 @@ module _ (c : Command) (status : ℕ) (report : Option PlainRun) (before after :
   write_faults (Large loses kept none said) = record { rose = said_rose said (λ h. absurd (omega (arith, h))); kept = said_kept said }
   write_faults (Lacks source r refusal is none said) = record { rose = said_rose said (λ h. absurd (omega (arith, h))); kept = said_kept said }
   write_faults (Speaks source r program has saying makes said) =
-      record { rose = said_rose said (makes_none_of report saying c program 5 makes (λ e. absurd (omega (arith, e))) (λ e. absurd (omega (arith, e))) (λ e. absurd (omega (arith, e)))); kept = said_kept said }
+      record { rose = said_rose said (makes_none_of report saying c program 5 makes (Writing refl)); kept = said_kept said }
   write_faults (Silent source r program has saying makes eight silent) = silent_writes silent (λ five. absurd (omega (arith, five, eight)))
 
 -- ---- what was written at a fault or at want of memory
@@ -375,19 +417,22 @@ module _ (words : List (List ℕ)) (status : ℕ) (report : Option PlainRun) (be
         some = λ command also. lifted words (λ d. IsListed (statuses d) status) c command spelled also (listed c status report before after (way_of c status report before after read));
       }
 
-  pub halted_clause : Answered words status report before after → HaltedClause status
+  no_halt : (halt : ℕ) → IsHalt halt → (status ≡ 1) ⊎ (status ≡ 5) → report ≡ None → Halts halt status report
+  no_halt halt is said none = record { reported = λ e. absurd (not_one halt said is.not_one is.not_five e); exact = if_none report _ none }
+
+  pub halted_clause : Answered words status report before after → HaltedClause status report
   halted_clause (NoCommand none left kept lacks said) =
       record {
-        no_trap = not_one 3 (said_status said) (λ e. absurd (omega (arith, e))) (λ e. absurd (omega (arith, e)));
-        no_thread = not_one 6 (said_status said) (λ e. absurd (omega (arith, e))) (λ e. absurd (omega (arith, e)));
-        no_full = not_one 9 (said_status said) (λ e. absurd (omega (arith, e))) (λ e. absurd (omega (arith, e)));
+        trapped = no_halt 3 three_halts (said_status said) lacks;
+        no_thread = no_halt 6 six_halts (said_status said) lacks;
+        full = no_halt 9 nine_halts (said_status said) lacks;
       }
   halted_clause (Commanded c spelled read) =
-      let is = listed c status report before after (way_of c status report before after read) in
+      let way = way_of c status report before after read in
       record {
-        no_trap = λ e. three_unlisted c (subst (λ s. IsListed (statuses c) s) e is);
-        no_thread = λ e. six_unlisted c (subst (λ s. IsListed (statuses c) s) e is);
-        no_full = λ e. nine_unlisted c (subst (λ s. IsListed (statuses c) s) e is);
+        trapped = halts c status report before after 3 three_halts way;
+        no_thread = halts c status report before after 6 six_halts way;
+        full = halts c status report before after 9 nine_halts way;
       }
 
   pub read_fault_clause : Answered words status report before after → ReadFaultClause status report before after

@@ -19,9 +19,9 @@ use Rattle.cl_token.specs.declared.lexer.LexEnd.{LexEnd}
 use Rattle.cl_token.specs.declared.lexer.LexEnd.TheVariants as lex_ends
 use Rattle.cl_token.proofs.Walk.{one_fault}
 use Rattle.cl_parse.specs.Unit.{Derives, IsTree, IsStopped}
-use Rattle.cl_model.specs.declared.refusal.RefusalKind.{RefusalKind}
-use Rattle.cl_model.specs.declared.refusal.RefusalKind.TheVariants as kinds
-use Rattle.cl_model.specs.Commands.{Print}
+use Rattle.clinda.specs.declared.refusal_kind.RefusalKind.{RefusalKind}
+use Rattle.clinda.specs.declared.refusal_kind.RefusalKind.TheVariants as kinds
+use Rattle.clinda.specs.Commands.{Print}
 use Rattle.clinda.specs.Front.{IsReadAs, StopsAt, place_of, FailsBy}
 use Rattle.clinda.specs.FrontEnds.{IsSplitOnce, refusal_kind, StopsFront, EndsFront}
 use Rattle.clinda.specs.declared.front.FrontEnd.{FrontEnd}
@@ -53,6 +53,16 @@ module _ (source : List ℕ) (place : ℕ) (kind : LexKind) (fault : IsFirstFaul
   same_failure p kinds.BadDirective f = same_fault p lexical.BadDirective f
   same_failure p kinds.Syntax f = absurd (fault.none f.tokens f.splits)
   same_failure p kinds.TooDeep f = absurd (fault.none f.tokens f.splits)
+  same_failure p kinds.NoMain f = absurd f
+  same_failure p kinds.UnknownName f = absurd f
+  same_failure p kinds.TwiceDeclared f = absurd f
+  same_failure p kinds.WrongType f = absurd f
+  same_failure p kinds.WrongCount f = absurd f
+  same_failure p kinds.BadFormat f = absurd f
+  same_failure p kinds.BadField f = absurd f
+  same_failure p kinds.NoLoop f = absurd f
+  same_failure p kinds.TooManySites f = absurd f
+  same_failure p kinds.TooManyFunctions f = absurd f
   same_failure p kinds.NotBuilt f = absurd f
 
   pub fault_refuses : IsRefused Print source (record { kind = refusal_kind kind; place = place })
@@ -103,6 +113,16 @@ module _ (source : List ℕ) (tokens : List PlainToken) (split : IsSplitOnce sou
     same_end p kinds.BadDirective f = absurd (no_fault p lexical.BadDirective f)
     same_end p kinds.Syntax f = same_stop p Syntax f
     same_end p kinds.TooDeep f = same_stop p TooDeep f
+    same_end p kinds.NoMain f = absurd f
+    same_end p kinds.UnknownName f = absurd f
+    same_end p kinds.TwiceDeclared f = absurd f
+    same_end p kinds.WrongType f = absurd f
+    same_end p kinds.WrongCount f = absurd f
+    same_end p kinds.BadFormat f = absurd f
+    same_end p kinds.BadField f = absurd f
+    same_end p kinds.NoLoop f = absurd f
+    same_end p kinds.TooManySites f = absurd f
+    same_end p kinds.TooManyFunctions f = absurd f
     same_end p kinds.NotBuilt f = absurd f
 
     pub stop_refuses : IsRefused Print source (record { kind = stop_kind kind; place = place_of source bad })
@@ -125,6 +145,16 @@ module _ (source : List ℕ) (tokens : List PlainToken) (split : IsSplitOnce sou
     never_fails kinds.BadDirective p f = no_fault p lexical.BadDirective f
     never_fails kinds.Syntax p f = never_stops Syntax p f
     never_fails kinds.TooDeep p f = never_stops TooDeep p f
+    never_fails kinds.NoMain p f = f
+    never_fails kinds.UnknownName p f = f
+    never_fails kinds.TwiceDeclared p f = f
+    never_fails kinds.WrongType p f = f
+    never_fails kinds.WrongCount p f = f
+    never_fails kinds.BadFormat p f = f
+    never_fails kinds.BadField p f = f
+    never_fails kinds.NoLoop p f = f
+    never_fails kinds.TooManySites p f = f
+    never_fails kinds.TooManyFunctions p f = f
     never_fails kinds.NotBuilt p f = f
 
     same_tree : (others : List Item) → IsReadAs source others → items ≡ others

@@ -1,30 +1,48 @@
 -- What holds of what a command makes of a program: a law over plain data for each command, and a case for each
 -- in what is said of any.
-use Rattle.std.proofs.Common.{◌≡◌, ◌≢◌, ◌≤◌, ℕ, Bool, true, false, List, [], ◌∷◌, Option, Some, None, get_or, length, refl, sym, ap, subst, ◌∙◌, arith, inl, inr}
-use Rattle.std.specs.Prelude.{◌⊎◌, IfSome, IsSome}
+use Rattle.std.proofs.Common.{◌≡◌, ◌≢◌, ◌≤◌, ℕ, Bool, true, false, List, [], ◌∷◌, Option, Some, None, get_or, length, drop, refl, sym, ap, subst, ◌∙◌, arith, inl, inr}
+use Rattle.std.specs.Prelude.{◌⊎◌, ◌++◌, codes, IfSome, IsSome}
+use Rattle.std.specs.Fmt.{decimal}
 use Rattle.std.proofs.lemmas.Fmt.{decimal_injective}
 use Rattle.cl_value.specs.Plain.{PlainRun, PlainEnd, Ended, Trapped, NoThread, HistoryFull, NoMemory, Stopped, Waiting}
 use Rattle.cl_value.specs.Tickets.{by_ticket}
-use Rattle.cl_model.specs.Commands.{Command, Seq, Print, Spells, most_bytes, does_run, statuses, IsListed}
-use Rattle.cl_model.specs.Ends.{Stuck}
-use Rattle.cl_model.specs.Good.{GoodRun, Turns, EndsAgree, AllEnded, SomeWait, status_of, some_failure}
-use Rattle.cl_model.specs.Small.{PlainItem, Accepted}
 use Rattle.cl_ast.specs.declared.statement.Item.{Item}
-use Rattle.cl_model.specs.SmallMeaning.{small_demands, small_sets}
-use Rattle.clinda.specs.Leaving.{IsRunStatus}
+use Rattle.cl_meaning.specs.Process.{demands}
+use Rattle.cl_model.specs.Ends.{Stuck}
+use Rattle.cl_model.specs.Good.{Turns, EndsAgree, AllEnded, SomeWait, status_of, some_failure}
+use Rattle.cl_alone.specs.Reports.{IsRunStatus}
+use Rattle.clinda.specs.Commands.{Options, Command, Seq, Print, most_steps, steps_words, Spells, ticks_of, most_bytes, does_run, statuses, IsListed}
 use Rattle.clinda.specs.Front.{IsReadAs}
-use Rattle.clinda.specs.Making.{Runs, Shows, Program, IsProgram, Makes, IsGoodRun}
-use Rattle.clinda.specs.Top.{TellsStuck}
+use Rattle.clinda.specs.Judging.{IsRunAs}
+use Rattle.clinda.specs.Making.{IsGood, Runs, Shows, Program, IsProgram, Makes, IsGoodRun}
+use Rattle.clinda.specs.Top.{TellsStuck, IsHalted, TellsHalted}
 use Rattle.clinda.specs.declared.outcome.Saying.{Saying}
 
 -- ---- words
 
+-- a word of the ticks says one number
+steps_once : (s t : Option ℕ) → IfSome s (λ n. n ≤ most_steps) → IfSome t (λ n. n ≤ most_steps) → steps_words s ≡ steps_words t → s ≡ t
+steps_once None None p q e = refl
+steps_once None (Some n) p q e = absurd (omega (arith, ap length e))
+steps_once (Some m) None p q e = absurd (omega (arith, ap length e))
+steps_once (Some m) (Some n) p q e =
+    let same : codes "steps=" ++ decimal m ≡ codes "steps=" ++ decimal n = ap (λ (ws : List (List ℕ)). get_or ws 0 []) e in
+    ap (λ k. Some k) (decimal_injective m n (omega (arith, p)) (omega (arith, q)) (ap (λ (word : List ℕ). drop 6 word) same))
+
+options_once : (o p : Options) → o.steps ≡ p.steps → o ≡ p
+options_once o p e = cc
+
+seq_once : (m n : ℕ) (o p : Options) → m ≡ n → o ≡ p → Seq m o ≡ Seq n p
+seq_once m n o p same alike = subst (λ k. Seq m o ≡ Seq k p) same (ap (λ (q : Options). Seq m q) alike)
+
 -- words spell one command
 pub spells_once : (words : List (List ℕ)) (c d : Command) → Spells words c → Spells words d → c ≡ d
-spells_once words (Seq m) (Seq n) p q =
-    ap (λ k. Seq k) (decimal_injective m n p.range q.range (ap (λ (ws : List (List ℕ)). get_or ws 1 []) (sym p.spelled ∙ q.spelled)))
-spells_once words (Seq m) Print p q = absurd (omega (arith, ap length (sym p.spelled ∙ q.spelled)))
-spells_once words Print (Seq n) p q = absurd (omega (arith, ap length (sym p.spelled ∙ q.spelled)))
+spells_once words (Seq m o) (Seq n p) q r =
+    let same = sym q.spelled ∙ r.spelled in
+    seq_once m n o p (decimal_injective m n q.range.0 r.range.0 (ap (λ (ws : List (List ℕ)). get_or ws 1 []) same))
+    (options_once o p (steps_once o.steps p.steps q.range.1.steps r.range.1.steps (ap (λ (ws : List (List ℕ)). drop 2 ws) same)))
+spells_once words (Seq m o) Print p q = absurd (omega (arith, ap length (sym p.spelled ∙ q.spelled)))
+spells_once words Print (Seq n o) p q = absurd (omega (arith, ap length (sym p.spelled ∙ q.spelled)))
 spells_once words Print Print p q = refl
 
 -- ---- reports
@@ -55,15 +73,21 @@ no_seven NoMemory e = absurd (omega (arith, e))
 no_seven (Stopped by) e = absurd (omega (arith, e))
 no_seven Waiting e = absurd (omega (arith, e))
 
-module _ (items : List PlainItem) (run : PlainRun) (acts : List _) where
-  seven_is_stuck : (b : Bool) → EndsAgree b (small_demands items) Turns acts run → run.status ≡ 7 → Stuck (small_demands items) acts × (b ≡ false)
+module _ (items : List Item) (ticks : ℕ) (run : PlainRun) (acts : List _) where
+  seven_is_stuck : (b : Bool) → EndsAgree b (demands items ticks) Turns acts run → run.status ≡ 7 → Stuck (demands items ticks) acts × (b ≡ false)
   seven_is_stuck true f e = absurd (no_seven f.halting.end (sym f.status ∙ e))
   seven_is_stuck false (AllEnded n zero all) e = absurd (omega (arith, zero, e))
   seven_is_stuck false (SomeWait can stuck seven all) e = (stuck, refl)
 
-  stuck_is_seven : EndsAgree false (small_demands items) Turns acts run → Stuck (small_demands items) acts → run.status ≡ 7
+  stuck_is_seven : EndsAgree false (demands items ticks) Turns acts run → Stuck (demands items ticks) acts → run.status ≡ 7
   stuck_is_seven (AllEnded n zero all) s = absurd (n tt s)
   stuck_is_seven (SomeWait can stuck seven all) s = seven
+
+  -- a status that is neither 0 nor 7 is that of a halt
+  status_is_halt : (b : Bool) (halt : ℕ) → EndsAgree b (demands items ticks) Turns acts run → halt ≢ 0 → halt ≢ 7 → run.status ≡ halt → IsHalted halt run
+  status_is_halt true halt f zero seven e = record { failure = f; by = sym f.status ∙ e }
+  status_is_halt false halt (AllEnded n none all) zero seven e = absurd (zero (sym e ∙ none))
+  status_is_halt false halt (SomeWait can stuck waits all) zero seven e = absurd (seven (sym e ∙ waits))
 
 -- a status that was found, or 5, or 8
 abbrev pub Comes : ℕ → ℕ → Type 0
@@ -74,35 +98,50 @@ found_at found status n (inl (inl h)) five eight e = sym h ∙ e
 found_at found status n (inl (inr h)) five eight e = absurd (five (sym e ∙ h))
 found_at found status n (inr h) five eight e = absurd (eight (sym e ∙ h))
 
-told_at : (found status : ℕ) → Comes found status → found ≡ 7 → (status ≡ 7) ⊎ ((status ≡ 5) ⊎ (status ≡ 8))
-told_at found status (inl (inl h)) e = inl (h ∙ e)
-told_at found status (inl (inr h)) e = inr (inl h)
-told_at found status (inr h) e = inr (inr h)
+told_at : (found status n : ℕ) → Comes found status → found ≡ n → (status ≡ n) ⊎ ((status ≡ 5) ⊎ (status ≡ 8))
+told_at found status n (inl (inl h)) e = inl (h ∙ e)
+told_at found status n (inl (inr h)) e = inr (inl h)
+told_at found status n (inr h) e = inr (inr h)
 
 -- the statuses of a run are listed
-run_listed : (status : ℕ) → IsRunStatus status → IsListed (0 ∷ 2 ∷ 4 ∷ 5 ∷ 7 ∷ 8 ∷ []) status
-run_listed status (inl h) = subst (λ s. IsListed (0 ∷ 2 ∷ 4 ∷ 5 ∷ 7 ∷ 8 ∷ []) s) (sym h) refl
-run_listed status (inr (inl h)) = subst (λ s. IsListed (0 ∷ 2 ∷ 4 ∷ 5 ∷ 7 ∷ 8 ∷ []) s) (sym h) refl
-run_listed status (inr (inr h)) = subst (λ s. IsListed (0 ∷ 2 ∷ 4 ∷ 5 ∷ 7 ∷ 8 ∷ []) s) (sym h) refl
+run_listed : (status : ℕ) → IsRunStatus status → IsListed (0 ∷ 2 ∷ 3 ∷ 4 ∷ 5 ∷ 7 ∷ 8 ∷ 9 ∷ []) status
+run_listed status (inl h) = subst (λ s. IsListed (0 ∷ 2 ∷ 3 ∷ 4 ∷ 5 ∷ 7 ∷ 8 ∷ 9 ∷ []) s) (sym h) refl
+run_listed status (inr (inl h)) = subst (λ s. IsListed (0 ∷ 2 ∷ 3 ∷ 4 ∷ 5 ∷ 7 ∷ 8 ∷ 9 ∷ []) s) (sym h) refl
+run_listed status (inr (inr (inl h))) = subst (λ s. IsListed (0 ∷ 2 ∷ 3 ∷ 4 ∷ 5 ∷ 7 ∷ 8 ∷ 9 ∷ []) s) (sym h) refl
+run_listed status (inr (inr (inr (inl h)))) = subst (λ s. IsListed (0 ∷ 2 ∷ 3 ∷ 4 ∷ 5 ∷ 7 ∷ 8 ∷ 9 ∷ []) s) (sym h) refl
+run_listed status (inr (inr (inr (inr h)))) = subst (λ s. IsListed (0 ∷ 2 ∷ 3 ∷ 4 ∷ 5 ∷ 7 ∷ 8 ∷ 9 ∷ []) s) (sym h) refl
 
-run_is_not : (status n : ℕ) → IsRunStatus status → n ≢ 0 → n ≢ 7 → n ≢ 8 → status ≢ n
-run_is_not status n (inl h) zero seven eight e = zero (sym e ∙ h)
-run_is_not status n (inr (inl h)) zero seven eight e = seven (sym e ∙ h)
-run_is_not status n (inr (inr h)) zero seven eight e = eight (sym e ∙ h)
+-- the statuses of refusals and of faults
+pub data IsOther (n : ℕ) : Type 0 where
+  Words : n ≡ 1 → IsOther n
+  Source : n ≡ 2 → IsOther n
+  Reading : n ≡ 4 → IsOther n
+  Writing : n ≡ 5 → IsOther n
+  Thread : n ≡ 6 → IsOther n
 
--- a unit is within the limit
-unit_size : (source : List ℕ) (items : List PlainItem) → Accepted source items → length source ≤ 1048576
-unit_size source items a = a.size
+not_listed : (n s : ℕ) → IsOther n → n ≡ s → (s ≡ 0) ⊎ ((s ≡ 3) ⊎ ((s ≡ 7) ⊎ ((s ≡ 8) ⊎ (s ≡ 9)))) → ⊥
+not_listed n s (Words h) e r = omega (arith, h, e, r)
+not_listed n s (Source h) e r = omega (arith, h, e, r)
+not_listed n s (Reading h) e r = omega (arith, h, e, r)
+not_listed n s (Writing h) e r = omega (arith, h, e, r)
+not_listed n s (Thread h) e r = omega (arith, h, e, r)
 
-module _ (items : List PlainItem) (report : Option PlainRun) (saying : Saying) (r : Runs items report saying) where
+run_is_not : (status n : ℕ) → IsRunStatus status → IsOther n → status ≢ n
+run_is_not status n is other e = not_listed n status other (sym e) is
+
+-- a tree that is run is within the limit
+run_size : (source : List ℕ) (items : List Item) → IsRunAs source items → length source ≤ 1048576
+run_size source items is = is.read.size
+
+module _ (items : List Item) (options : Options) (report : Option PlainRun) (saying : Saying) (r : Runs items options report saying) where
   status_is : saying.status ≡ r.run.status
   status_is = ap (λ (s : Saying). s.status) r.said
 
-  run_is_listed : IsListed (0 ∷ 2 ∷ 4 ∷ 5 ∷ 7 ∷ 8 ∷ []) saying.status
-  run_is_listed = subst (λ s. IsListed (0 ∷ 2 ∷ 4 ∷ 5 ∷ 7 ∷ 8 ∷ []) s) (sym status_is) (run_listed r.run.status r.is.status)
+  run_is_listed : IsListed (0 ∷ 2 ∷ 3 ∷ 4 ∷ 5 ∷ 7 ∷ 8 ∷ 9 ∷ []) saying.status
+  run_is_listed = subst (λ s. IsListed (0 ∷ 2 ∷ 3 ∷ 4 ∷ 5 ∷ 7 ∷ 8 ∷ 9 ∷ []) s) (sym status_is) (run_listed r.run.status r.is.status)
 
-  run_differs : (n : ℕ) → n ≢ 0 → n ≢ 7 → n ≢ 8 → saying.status ≢ n
-  run_differs n zero seven eight e = run_is_not r.run.status n r.is.status zero seven eight (sym status_is ∙ e)
+  run_differs : (n : ℕ) → IsOther n → saying.status ≢ n
+  run_differs n other e = run_is_not r.run.status n r.is.status other (sym status_is ∙ e)
 
   run_is_there : IsSome report
   run_is_there = is_report report r.run r.told
@@ -110,15 +149,23 @@ module _ (items : List PlainItem) (report : Option PlainRun) (saying : Saying) (
   run_is_eight : saying.status ≡ 8 → IfSome report (λ run. run.status ≡ 8)
   run_is_eight e = if_report report r.run (λ (run : PlainRun). run.status ≡ 8) r.told (sym status_is ∙ e)
 
-  run_is_good : IfSome report (λ run. GoodRun (small_demands items) (small_sets items) Turns run)
+  run_is_good : IfSome report (λ run. IsGood items options run)
   run_is_good = if_report report r.run _ r.told r.is.good
 
-  run_tells_stuck : (seed status : ℕ) → Comes saying.status status → IfSome report (TellsStuck (Seq seed) items status)
+  run_tells_stuck : (seed status : ℕ) → Comes saying.status status → IfSome report (TellsStuck (Seq seed options) items status)
   run_tells_stuck seed status comes =
-      if_report report r.run (TellsStuck (Seq seed) items status) r.told
+      if_report report r.run (TellsStuck (Seq seed options) items status) r.told
       (record {
-        only = λ seven. seven_is_stuck items r.run (by_ticket r.run.histories) (some_failure r.run.reports) r.is.good.ends (sym status_is ∙ found_at saying.status status 7 comes (λ e. absurd (omega (arith, e))) (λ e. absurd (omega (arith, e))) seven);
-        told = λ stuck none. told_at saying.status status comes (status_is ∙ stuck_is_seven items r.run (by_ticket r.run.histories) (subst (λ b. EndsAgree b (small_demands items) Turns (by_ticket r.run.histories) r.run) none r.is.good.ends) stuck);
+        only = λ seven. seven_is_stuck items (ticks_of options) r.run (by_ticket r.run.histories) (some_failure r.run.reports) r.is.good.ends (sym status_is ∙ found_at saying.status status 7 comes (λ e. absurd (omega (arith, e))) (λ e. absurd (omega (arith, e))) seven);
+        told = λ stuck none. told_at saying.status status 7 comes (status_is ∙ stuck_is_seven items (ticks_of options) r.run (by_ticket r.run.histories) (subst (λ b. EndsAgree b (demands items (ticks_of options)) Turns (by_ticket r.run.histories) r.run) none r.is.good.ends) stuck);
+      })
+
+  run_tells_halted : (halt status : ℕ) → halt ≢ 0 → halt ≢ 5 → halt ≢ 7 → halt ≢ 8 → Comes saying.status status → IfSome report (TellsHalted halt status)
+  run_tells_halted halt status zero five seven eight comes =
+      if_report report r.run (TellsHalted halt status) r.told
+      (record {
+        only = λ e. status_is_halt items (ticks_of options) r.run (by_ticket r.run.histories) (some_failure r.run.reports) halt r.is.good.ends zero seven (sym status_is ∙ found_at saying.status status halt comes five eight e);
+        told = λ halted. told_at saying.status status halt comes (status_is ∙ halted.failure.status ∙ halted.by);
       })
 
 -- ---- trees
@@ -140,79 +187,76 @@ module _ (items : List Item) (report : Option PlainRun) (saying : Saying) (r : S
 
 -- a program is within the limit
 pub program_size : (c : Command) (source : List ℕ) (program : Program c) → IsProgram c source program → length source ≤ most_bytes c
-program_size (Seq seed) source program is = unit_size source program is
+program_size (Seq seed options) source program is = run_size source program is
 program_size Print source program is = tree_size source program is
 
 -- the statuses of a refusal, of faults and of want of memory are listed
 pub two_listed : (c : Command) → IsListed (statuses c) 2
-two_listed (Seq seed) = refl
+two_listed (Seq seed options) = refl
 two_listed Print = refl
 
 pub four_listed : (c : Command) → IsListed (statuses c) 4
-four_listed (Seq seed) = refl
+four_listed (Seq seed options) = refl
 four_listed Print = refl
 
 pub five_listed : (c : Command) → IsListed (statuses c) 5
-five_listed (Seq seed) = refl
+five_listed (Seq seed options) = refl
 five_listed Print = refl
 
 pub eight_listed : (c : Command) → IsListed (statuses c) 8
-eight_listed (Seq seed) = refl
+eight_listed (Seq seed options) = refl
 eight_listed Print = refl
 
--- these come of no command
+-- this comes of no command
 pub one_unlisted : (c : Command) → IsListed (statuses c) 1 → ⊥
-one_unlisted (Seq seed) e = cc
+one_unlisted (Seq seed options) e = cc
 one_unlisted Print e = cc
-
-pub three_unlisted : (c : Command) → IsListed (statuses c) 3 → ⊥
-three_unlisted (Seq seed) e = cc
-three_unlisted Print e = cc
-
-pub six_unlisted : (c : Command) → IsListed (statuses c) 6 → ⊥
-six_unlisted (Seq seed) e = cc
-six_unlisted Print e = cc
-
-pub nine_unlisted : (c : Command) → IsListed (statuses c) 9 → ⊥
-nine_unlisted (Seq seed) e = cc
-nine_unlisted Print e = cc
 
 module _ (report : Option PlainRun) (saying : Saying) where
   pub makes_listed : (c : Command) (program : Program c) → Makes c program report saying → IsListed (statuses c) saying.status
-  makes_listed (Seq seed) program made = run_is_listed program report saying made
+  makes_listed (Seq seed options) program made = run_is_listed program options report saying made
   makes_listed Print program made = zero_listed program report saying made
 
   -- it is no refusal, no fault
-  pub makes_none_of : (c : Command) (program : Program c) (n : ℕ) → Makes c program report saying → n ≢ 0 → n ≢ 7 → n ≢ 8 → saying.status ≢ n
-  makes_none_of (Seq seed) program n made zero seven eight = run_differs program report saying made n zero seven eight
-  makes_none_of Print program n made zero seven eight = λ e. zero (sym e ∙ is_zero program report saying made)
+  pub makes_none_of : (c : Command) (program : Program c) (n : ℕ) → Makes c program report saying → IsOther n → saying.status ≢ n
+  makes_none_of (Seq seed options) program n made other = run_differs program options report saying made n other
+  makes_none_of Print program n made other = λ e. not_listed n saying.status other (sym e) (inl (is_zero program report saying made))
 
   -- a command that runs gives a report, and no other does
   pub makes_report : (c : Command) (program : Program c) → Makes c program report saying → does_run c ≡ true → IsSome report
-  makes_report (Seq seed) program made runs = run_is_there program report saying made
+  makes_report (Seq seed options) program made runs = run_is_there program options report saying made
   makes_report Print program made runs = absurd cc
 
   pub makes_no_report : (c : Command) (program : Program c) → Makes c program report saying → does_run c ≡ false → report ≡ None
-  makes_no_report (Seq seed) program made runs = absurd cc
+  makes_no_report (Seq seed options) program made runs = absurd cc
   makes_no_report Print program made runs = none_there program report saying made
 
   pub makes_seven : (c : Command) (program : Program c) → Makes c program report saying → saying.status ≡ 7 → IsSome report
-  makes_seven (Seq seed) program made seven = run_is_there program report saying made
+  makes_seven (Seq seed options) program made seven = run_is_there program options report saying made
   makes_seven Print program made seven = absurd (omega (arith, is_zero program report saying made, seven))
 
   pub makes_eight : (c : Command) (program : Program c) → Makes c program report saying → saying.status ≡ 8 → IsSome report
-  makes_eight (Seq seed) program made eight = run_is_there program report saying made
+  makes_eight (Seq seed options) program made eight = run_is_there program options report saying made
   makes_eight Print program made eight = absurd (omega (arith, is_zero program report saying made, eight))
 
   -- status 8 is the report's own
   pub makes_own : (c : Command) (program : Program c) → Makes c program report saying → saying.status ≡ 8 → IfSome report (λ run. run.status ≡ 8)
-  makes_own (Seq seed) program made eight = run_is_eight program report saying made eight
+  makes_own (Seq seed options) program made eight = run_is_eight program options report saying made eight
   makes_own Print program made eight = absurd (omega (arith, is_zero program report saying made, eight))
 
   pub makes_good : (c : Command) (program : Program c) → Makes c program report saying → IfSome report (IsGoodRun c program)
-  makes_good (Seq seed) program made = run_is_good program report saying made
+  makes_good (Seq seed options) program made = run_is_good program options report saying made
   makes_good Print program made = if_none report _ (none_there program report saying made)
 
   pub makes_stuck : (c : Command) (program : Program c) (status : ℕ) → Makes c program report saying → Comes saying.status status → IfSome report (TellsStuck c program status)
-  makes_stuck (Seq seed) program status made comes = run_tells_stuck program report saying made seed status comes
+  makes_stuck (Seq seed options) program status made comes = run_tells_stuck program options report saying made seed status comes
   makes_stuck Print program status made comes = if_none report _ (none_there program report saying made)
+
+  pub makes_halted : (c : Command) (program : Program c) (halt status : ℕ) → Makes c program report saying → halt ≢ 0 → halt ≢ 5 → halt ≢ 7 → halt ≢ 8 → Comes saying.status status → IfSome report (TellsHalted halt status)
+  makes_halted (Seq seed options) program halt status made zero five seven eight comes = run_tells_halted program options report saying made halt status zero five seven eight comes
+  makes_halted Print program halt status made zero five seven eight comes = if_none report _ (none_there program report saying made)
+
+  -- a halt has a report
+  pub makes_run : (c : Command) (program : Program c) → Makes c program report saying → saying.status ≢ 0 → IsSome report
+  makes_run (Seq seed options) program made other = run_is_there program options report saying made
+  makes_run Print program made other = absurd (other (is_zero program report saying made))

@@ -1,35 +1,20 @@
 -- What a command found of a source, from what became of its parts.
-use Rattle.std.proofs.Common.{◌≡◌, ℕ, List, Option, None, refl, sym, subst}
+use Rattle.std.proofs.Common.{◌≡◌, ℕ, List, Option, None, refl, subst, sym}
 use Rattle.cl_value.specs.Plain.{PlainRun}
 use Rattle.cl_ast.specs.declared.statement.Item.{Item}
 use Rattle.cl_print.specs.Back.{ReadsAs}
 use Rattle.cl_print.proofs.Back.{text_reads_back}
-use Rattle.cl_model.specs.declared.refusal.Refusal.{Refusal}
-use Rattle.cl_model.specs.declared.refusal.RefusalKind.TheVariants as kinds
-use Rattle.cl_model.specs.Commands.{Command, Seq, Print}
-use Rattle.cl_model.specs.Places.{IsRefusedAt}
-use Rattle.cl_model.specs.Small.{PlainItem, Accepted}
+use Rattle.clinda.specs.Commands.{Options, Command, Seq, Print}
 use Rattle.clinda.specs.Front.{IsReadAs}
-use Rattle.clinda.specs.Making.{HasNone, HasProgram, IsRefused, IsSaid, run_saying, text_saying, refusal_saying, Found, Made, Refused}
+use Rattle.clinda.specs.Making.{HasProgram, IsRefused, IsSaid, run_saying, text_saying, refusal_saying, Found, Made, Refused}
 use Rattle.clinda.specs.Making as making
 use Rattle.clinda.specs.Ran.{Ran, Reported, Unreported}
 use Rattle.clinda.specs.declared.outcome.Saying.{Saying}
-use Rattle.clinda.proofs.PlaceLaws.{refused_once, refused_has_none}
-use Rattle.clinda.proofs.Refused.{same_refusal}
+use Rattle.clinda.specs.declared.refusal_kind.Refusal.{Refusal}
 
--- a unit is a program of `seq`, and nothing refuses it
-pub unit_read : (seed : ℕ) (source : List ℕ) (items : List PlainItem) → Accepted source items → ((others : List PlainItem) → Accepted source others → items ≡ others) → HasProgram (Seq seed) source items
-unit_read seed source items accepted alone =
-    record { is = accepted; alone = alone; fine = λ refusal refuses. refused_has_none source refusal.place refuses.1 items accepted }
-
--- a source of no unit is refused at one place
-pub unit_refused : (seed : ℕ) (source : List ℕ) (place : ℕ) → HasNone (Seq seed) source → IsRefusedAt source place → IsRefused (Seq seed) source (record { kind = kinds.NotBuilt; place = place })
-unit_refused seed source place none at =
-    record { none = none; is = (refl, at); alone = λ other refuses. same_refusal kinds.NotBuilt place other (sym refuses.0) (refused_once source place other.place at refuses.1) }
-
-pub run_found : (seed : ℕ) (source : List ℕ) (items : List PlainItem) (report : Option PlainRun) (found : Option Saying) → HasProgram (Seq seed) source items → Ran items report found → Found (Seq seed) source report found
-run_found seed source items report found has (Reported run told is said) = Made items has (run_saying items run) (record { run = run; told = told; is = is; said = refl }) said
-run_found seed source items report found has (Unreported none nothing) = making.Unfound none nothing
+pub run_found : (seed : ℕ) (options : Options) (source : List ℕ) (items : List Item) (report : Option PlainRun) (found : Option Saying) → HasProgram (Seq seed options) source items → Ran items options report found → Found (Seq seed options) source report found
+run_found seed options source items report found has (Reported run told is said) = Made items has (run_saying items run) (record { run = run; told = told; is = is; said = refl }) said
+run_found seed options source items report found has (Unreported none nothing) = making.Unfound none nothing
 
 -- what is read as a tree is so in the terms of the printer
 reads_as : (source : List ℕ) (items : List Item) → IsReadAs source items → ReadsAs 64 source items

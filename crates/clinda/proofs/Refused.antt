@@ -1,7 +1,7 @@
 -- Refusals of one kind at one place are one.
 use Rattle.std.proofs.Common.{◌≡◌, ℕ, refl, sym, subst}
-use Rattle.cl_model.specs.declared.refusal.Refusal.{Refusal}
-use Rattle.cl_model.specs.declared.refusal.RefusalKind.{RefusalKind}
+use Rattle.clinda.specs.declared.refusal_kind.Refusal.{Refusal}
+use Rattle.clinda.specs.declared.refusal_kind.RefusalKind.{RefusalKind}
 
 pub same_refusal : (kind : RefusalKind) (place : ℕ) (other : Refusal) → kind ≡ other.kind → place ≡ other.place → record { kind = kind; place = place } ≡ other
 same_refusal kind place other same_kind same_place =

@@ -3,8 +3,8 @@ use Rattle.std.specs.Prelude.{ℕ, ◌≡◌, ◌+◌, ◌≤◌, List, length, 
 use Rattle.cl_value.specs.Plain.{PlainRun}
 use Rattle.cl_outside.specs.Faults.{Rose}
 use Rattle.cl_outside.specs.Streams.{TakesAll, Loses, LosesUpTo}
-use Rattle.cl_model.specs.Commands.{Command, Spells, SpellsNone, most_bytes}
-use Rattle.cl_model.specs.Refusals.{words_refused, too_large}
+use Rattle.clinda.specs.Commands.{Command, Spells, SpellsNone, most_bytes}
+use Rattle.clinda.specs.Refusals.{words_refused, too_large}
 use Rattle.clinda.specs.Saying.{Said, Tells}
 use Rattle.clinda.specs.Making.{Found}
 use Rattle.clinda.specs.declared.outcome.Saying.{Saying}

@@ -7,9 +7,9 @@ use Rattle.cl_ast.specs.Plain.{PlainToken}
 use Rattle.cl_ast.specs.Splits.{Splits}
 use Rattle.cl_token.specs.Lexing.{IsFirstFault}
 use Rattle.cl_parse.specs.Unit.{IsTree, IsStopped}
-use Rattle.cl_model.specs.declared.refusal.Refusal.{Refusal}
-use Rattle.cl_model.specs.declared.refusal.RefusalKind.{RefusalKind}
-use Rattle.cl_model.specs.declared.refusal.RefusalKind.TheVariants as kinds
+use Rattle.clinda.specs.declared.refusal_kind.Refusal.{Refusal}
+use Rattle.clinda.specs.declared.refusal_kind.RefusalKind.{RefusalKind}
+use Rattle.clinda.specs.declared.refusal_kind.RefusalKind.TheVariants as kinds
 
 -- the source is the tree of these items: it has at most so many bytes, it splits into tokens, and these derive
 -- the tree and no other, within the nesting
@@ -42,7 +42,7 @@ FailsBy kinds.WideLiteral source place = IsFirstFault source place lexical.WideL
 FailsBy kinds.BadDirective source place = IsFirstFault source place lexical.BadDirective
 FailsBy kinds.Syntax source place = StopsAt source Syntax place
 FailsBy kinds.TooDeep source place = StopsAt source TooDeep place
-FailsBy kinds.NotBuilt source place = ⊥
+FailsBy _ source place = ⊥
 
 abbrev pub Fails : List ℕ → Refusal → Type 0
 Fails source refusal = FailsBy refusal.kind source refusal.place

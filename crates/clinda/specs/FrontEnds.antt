@@ -7,9 +7,9 @@ use Rattle.cl_ast.specs.Splits.{Splits}
 use Rattle.cl_token.specs.Lexing.{IsFirstFault}
 use Rattle.cl_token.specs.declared.lexer.LexEnd.{LexEnd}
 use Rattle.cl_token.specs.declared.lexer.LexEnd.TheVariants as lex_ends
-use Rattle.cl_model.specs.declared.refusal.RefusalKind.{RefusalKind}
-use Rattle.cl_model.specs.declared.refusal.RefusalKind.TheVariants as kinds
-use Rattle.cl_model.specs.Commands.{Print}
+use Rattle.clinda.specs.declared.refusal_kind.RefusalKind.{RefusalKind}
+use Rattle.clinda.specs.declared.refusal_kind.RefusalKind.TheVariants as kinds
+use Rattle.clinda.specs.Commands.{Print}
 use Rattle.clinda.specs.Making.{IsRefused}
 use Rattle.clinda.specs.declared.front.FrontEnd.{FrontEnd}
 use Rattle.clinda.specs.declared.front.FrontEnd.TheVariants as ends

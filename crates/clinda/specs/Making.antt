@@ -7,39 +7,44 @@ use Rattle.cl_value.specs.Text.{run_text}
 use Rattle.cl_ast.specs.declared.statement.Item.{Item}
 use Rattle.cl_print.specs.Writing.{canonical}
 use Rattle.cl_print.specs.Back.{ReadsBack}
-use Rattle.cl_model.specs.declared.refusal.Refusal.{Refusal}
-use Rattle.cl_model.specs.declared.refusal.RefusalKind.TheVariants as kinds
-use Rattle.cl_model.specs.Commands.{Command, Seq, Print}
+use Rattle.cl_listing.specs.Listing.{texts_of}
+use Rattle.cl_meaning.specs.Process.{demands}
 use Rattle.cl_model.specs.Ends.{Stuck}
-use Rattle.cl_model.specs.Good.{GoodRun, Turns}
-use Rattle.cl_model.specs.Places.{IsRefusedAt}
-use Rattle.cl_model.specs.Refusals.{refused}
-use Rattle.cl_model.specs.Small.{PlainItem, Accepted}
-use Rattle.cl_model.specs.SmallMeaning.{texts_of, small_demands, small_sets}
-use Rattle.clinda.specs.Leaving.{IsRunStatus}
+use Rattle.cl_model.specs.Good.{Turns}
+use Rattle.cl_model.specs.Runs.{GoodRun}
+use Rattle.cl_alone.specs.Reports.{IsRunStatus}
+use Rattle.cl_alone.specs.Sets.{meaning_of}
+use Rattle.clinda.specs.Commands.{Options, Command, Seq, Print, ticks_of, entries_of}
 use Rattle.clinda.specs.Front.{IsReadAs, Fails}
+use Rattle.clinda.specs.Judging.{IsRunAs, RefusesRun}
+use Rattle.clinda.specs.Refusals.{refused}
 use Rattle.clinda.specs.declared.outcome.Saying.{Saying}
+use Rattle.clinda.specs.declared.refusal_kind.Refusal.{Refusal}
 
 -- ---- a run, a tree, and a refusal
 
--- the text of a run of a unit
-abbrev pub text_of : List PlainItem → PlainRun → List ℕ
+-- the text of a run of a tree
+abbrev pub text_of : List Item → PlainRun → List ℕ
 text_of items run = run_text (texts_of items) run.reports (length (by_ticket run.histories)) run.status
 
--- a good run of the unit
-pub record IsRun (items : List PlainItem) (run : PlainRun) : Type 0 where
-  pub good : GoodRun (small_demands items) (small_sets items) Turns run
+-- the run is a good run of what the tree means, by these options
+abbrev pub IsGood : List Item → Options → PlainRun → Type 0
+IsGood items options run = GoodRun (meaning_of items (ticks_of options) (entries_of options)) Turns run
+
+-- a good run of the tree
+pub record IsRun (items : List Item) (options : Options) (run : PlainRun) : Type 0 where
+  pub good : IsGood items options run
   pub status : IsRunStatus run.status
 
 -- what is to be said of a run: its text, with its status
-abbrev pub run_saying : List PlainItem → PlainRun → Saying
+abbrev pub run_saying : List Item → PlainRun → Saying
 run_saying items run = record { text = text_of items run; status = run.status }
 
--- the unit was run, and this is to be said of its run
-pub record Runs (items : List PlainItem) (report : Option PlainRun) (saying : Saying) : Type 0 where
+-- the tree was run, and this is to be said of its run
+pub record Runs (items : List Item) (options : Options) (report : Option PlainRun) (saying : Saying) : Type 0 where
   pub run : PlainRun
   pub told : report ≡ Some run
-  pub is : IsRun items run
+  pub is : IsRun items options run
   pub said : saying ≡ run_saying items run
 
 -- what is to be said of a tree: its canonical text
@@ -60,32 +65,32 @@ refusal_saying source refusal = record { text = refused source refusal; status =
 
 -- what it reads a source as
 abbrev pub Program : Command → Type 0
-Program (Seq seed) = List PlainItem
+Program (Seq seed options) = List Item
 Program Print = List Item
 
 -- the source is this program
 abbrev pub IsProgram : (command : Command) → List ℕ → Program command → Type 0
-IsProgram (Seq seed) source program = Accepted source program
+IsProgram (Seq seed options) source program = IsRunAs source program
 IsProgram Print source program = IsReadAs source program
 
 -- it refuses the source so
 abbrev pub Refuses : Command → List ℕ → Refusal → Type 0
-Refuses (Seq seed) source refusal = (refusal.kind ≡ kinds.NotBuilt) × IsRefusedAt source refusal.place
+Refuses (Seq seed options) source refusal = RefusesRun source refusal
 Refuses Print source refusal = Fails source refusal
 
 -- it gives such a report for the program, and this is to be said
 abbrev pub Makes : (command : Command) → Program command → Option PlainRun → Saying → Type 0
-Makes (Seq seed) program report saying = Runs program report saying
+Makes (Seq seed options) program report saying = Runs program options report saying
 Makes Print program report saying = Shows program report saying
 
 -- the run is a good run of the program
 abbrev pub IsGoodRun : (command : Command) → Program command → PlainRun → Type 0
-IsGoodRun (Seq seed) program run = GoodRun (small_demands program) (small_sets program) Turns run
+IsGoodRun (Seq seed options) program run = IsGood program options run
 IsGoodRun Print program run = ⊥
 
 -- the run of the program is stuck
 abbrev pub IsStuck : (command : Command) → Program command → PlainRun → Type 0
-IsStuck (Seq seed) program run = Stuck (small_demands program) (by_ticket run.histories)
+IsStuck (Seq seed options) program run = Stuck (demands program (ticks_of options)) (by_ticket run.histories)
 IsStuck Print program run = ⊥
 
 -- ---- any command

@@ -2,9 +2,9 @@
 use Rattle.std.specs.Prelude.{ℕ, ◌+◌, ◌==◌, if◌then◌else◌, List, [], ◌∷◌, ◌++◌, codes, take}
 use Rattle.std.specs.Fmt.{decimal}
 use Rattle.cl_value.specs.Text.{line}
-use Rattle.cl_model.specs.declared.refusal.Refusal.{Refusal}
-use Rattle.cl_model.specs.declared.refusal.RefusalKind.{RefusalKind}
-use Rattle.cl_model.specs.declared.refusal.RefusalKind.TheVariants as kinds
+use Rattle.clinda.specs.declared.refusal_kind.Refusal.{Refusal}
+use Rattle.clinda.specs.declared.refusal_kind.RefusalKind.{RefusalKind}
+use Rattle.clinda.specs.declared.refusal_kind.RefusalKind.TheVariants as kinds
 
 -- the line of what follows these bytes, from a line on: lines end at LF
 abbrev pub line_from : ℕ → List ℕ → ℕ
@@ -37,6 +37,16 @@ kind_word kinds.WideLiteral = codes "WideLiteral"
 kind_word kinds.BadDirective = codes "BadDirective"
 kind_word kinds.Syntax = codes "Syntax"
 kind_word kinds.TooDeep = codes "TooDeep"
+kind_word kinds.NoMain = codes "NoMain"
+kind_word kinds.UnknownName = codes "UnknownName"
+kind_word kinds.TwiceDeclared = codes "TwiceDeclared"
+kind_word kinds.WrongType = codes "WrongType"
+kind_word kinds.WrongCount = codes "WrongCount"
+kind_word kinds.BadFormat = codes "BadFormat"
+kind_word kinds.BadField = codes "BadField"
+kind_word kinds.NoLoop = codes "NoLoop"
+kind_word kinds.TooManySites = codes "TooManySites"
+kind_word kinds.TooManyFunctions = codes "TooManyFunctions"
 kind_word kinds.NotBuilt = codes "NotBuilt"
 
 -- the source is refused so

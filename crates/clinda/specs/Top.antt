@@ -4,10 +4,10 @@ use Rattle.std.specs.Prelude.{ℕ, ◌≡◌, ◌≢◌, ◌+◌, ◌≤◌, ◌
 use Rattle.cl_value.specs.Plain.{PlainRun}
 use Rattle.cl_outside.specs.Faults.{Rose, Quiet}
 use Rattle.cl_outside.specs.Streams.{Appends, LosesUpTo}
-use Rattle.cl_model.specs.declared.refusal.Refusal.{Refusal}
-use Rattle.cl_model.specs.Commands.{Command, Spells, SpellsNone, most_bytes, does_run, statuses, IsListed}
-use Rattle.cl_model.specs.Good.{some_failure}
-use Rattle.cl_model.specs.Refusals.{words_refused, too_large, refused}
+use Rattle.clinda.specs.declared.refusal_kind.Refusal.{Refusal}
+use Rattle.clinda.specs.Commands.{Command, Spells, SpellsNone, most_bytes, does_run, statuses, IsListed}
+use Rattle.cl_model.specs.Good.{WithFailure, some_failure, status_of}
+use Rattle.clinda.specs.Refusals.{words_refused, too_large, refused}
 use Rattle.clinda.specs.Making.{Program, IsProgram, Refuses, Makes, IsGoodRun, IsStuck, HasNone}
 use Rattle.clinda.specs.Answering.{Outside, Says}
 use Rattle.clinda.specs.declared.outcome.Saying.{Saying}
@@ -108,11 +108,26 @@ pub record StatusesClause (words : List (List ℕ)) (status : ℕ) : Type 0 wher
   pub none : SpellsNone words → IsListed (1 ∷ 5 ∷ []) status
   pub some : (command : Command) → Spells words command → IsListed (statuses command) status
 
--- no process halts its run but by want of memory
-pub record HaltedClause (status : ℕ) : Type 0 where
-  pub no_trap : status ≢ 3
-  pub no_thread : status ≢ 6
-  pub no_full : status ≢ 9
+-- a process halted the run by an end of this status: 3 is that of a trap, 6 of a thread that was refused, 9 of a
+-- full history
+pub record IsHalted (halt : ℕ) (run : PlainRun) : Type 0 where
+  pub failure : WithFailure run
+  pub by : status_of failure.halting.end ≡ halt
+
+-- such a status says that the run was halted so; a run that was has this status, unless its text wasn't written
+pub record TellsHalted (halt status : ℕ) (run : PlainRun) : Type 0 where
+  pub only : status ≡ halt → IsHalted halt run
+  pub told : IsHalted halt run → (status ≡ halt) ⊎ ((status ≡ 5) ⊎ (status ≡ 8))
+
+pub record Halts (halt status : ℕ) (report : Option PlainRun) : Type 0 where
+  pub reported : status ≡ halt → IsSome report
+  pub exact : IfSome report (TellsHalted halt status)
+
+-- status 3, 6 and 9 come exactly where a process halted the run by such an end
+pub record HaltedClause (status : ℕ) (report : Option PlainRun) : Type 0 where
+  pub trapped : Halts 3 status report
+  pub no_thread : Halts 6 status report
+  pub full : Halts 9 status report
 
 -- status 4 comes only where a read failed, and then nothing is written
 pub record ReadFaultClause (status : ℕ) (report : Option PlainRun) (before after : Outside) : Type 0 where

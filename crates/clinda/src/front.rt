@@ -5,13 +5,13 @@ ghost use Rattle.cl_rules.specs.Rules.{Kind};
 ghost use Rattle.cl_ast.specs.Plain.{PlainToken};
 ghost use Rattle.cl_ast.specs.Splits.{Splits};
 ghost use Rattle.cl_ast.specs.Views.{plain_token};
-ghost use Rattle.cl_model.specs.Commands.{Print};
+ghost use Rattle.clinda.specs.Commands.{Print};
 ghost use Rattle.clinda.specs.Making.{HasProgram};
 ghost use Rattle.clinda.specs.Front.{place_of};
 ghost use Rattle.clinda.specs.FrontEnds.{IsSplitOnce, refusal_kind, EndsFront, StopsFront};
 
+use crate::refusal_kind::{Refusal, RefusalKind};
 use cl_ast::{LexKind, ParseEnd, Token, Unit};
-use cl_model::{Refusal, RefusalKind};
 use cl_parse::parse;
 use cl_token::{LexEnd, lex};
 use std::alloc::Global;

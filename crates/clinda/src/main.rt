@@ -6,29 +6,19 @@
 //!
 //! - `words`: the command that the words spell.
 //! - `seq`, `print`: what each command makes of a source; `outcome`: what there is to say of it.
-//! - `front`: the reader of the whole language.
-//! - `small`: the reader of the small form of a source.
-//! - `running`, `stage`, `log`, `bindings`, `taking`, `printing`, `tables`: the run of a unit, its state, its
-//!   acts, the values of its variables, what it takes and prints, and the texts and tuples of its pieces.
-//! - `report_text`, `refusal`, `text`: the texts that are written.
+//! - `judge`: the reader of sources for a run, which have no faults; `front`: the reader of all sources.
+//! - `report_text`, `refusal`, `refusal_kind`, `text`: the texts that are written.
 #![tactic(auto)]
 
-mod bindings;
 mod front;
-mod limits;
-mod log;
+mod judge;
 mod outcome;
 mod print;
-mod printing;
 mod program;
 mod refusal;
+mod refusal_kind;
 mod report_text;
-mod running;
 mod seq;
-mod small;
-mod stage;
-mod tables;
-mod taking;
 #[cfg(test)]
 mod tests;
 mod text;

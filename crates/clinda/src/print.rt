@@ -2,7 +2,7 @@
 
 ghost use Rattle.std.specs.Prelude.{◌≡◌, ◌≤◌, length, IfOk, option_map};
 ghost use Rattle.cl_value.specs.Views.{plain_run};
-ghost use Rattle.cl_model.specs.Commands.{Print};
+ghost use Rattle.clinda.specs.Commands.{Print};
 ghost use Rattle.clinda.specs.Making.{IsSaid, text_saying, Found};
 
 use crate::front::{FrontEnd, read_source};

@@ -1,11 +1,11 @@
 ghost use Rattle.std.specs.Prelude.{◌≡◌, ◌≤◌, length, take, IfOk};
-ghost use Rattle.cl_model.specs.Refusals.{line_from, column_from, kind_word, refused};
-ghost use Rattle.cl_model.specs.Refusals as refusals;
+ghost use Rattle.clinda.specs.Refusals.{line_from, column_from, kind_word, refused};
+ghost use Rattle.clinda.specs.Refusals as refusals;
 ghost use Rattle.clinda.specs.Making.{IsSaid, refusal_saying};
 
 use crate::outcome::{Outcome, Saying};
+use crate::refusal_kind::{Refusal, RefusalKind};
 use crate::text::Text;
-use cl_model::{Refusal, RefusalKind};
 use cl_value::NoMemory;
 use std::alloc::Global;
 
@@ -56,6 +56,16 @@ fn word_of(kind: RefusalKind) -> &'static [u8]
         RefusalKind::BadDirective => b"BadDirective",
         RefusalKind::Syntax => b"Syntax",
         RefusalKind::TooDeep => b"TooDeep",
+        RefusalKind::NoMain => b"NoMain",
+        RefusalKind::UnknownName => b"UnknownName",
+        RefusalKind::TwiceDeclared => b"TwiceDeclared",
+        RefusalKind::WrongType => b"WrongType",
+        RefusalKind::WrongCount => b"WrongCount",
+        RefusalKind::BadFormat => b"BadFormat",
+        RefusalKind::BadField => b"BadField",
+        RefusalKind::NoLoop => b"NoLoop",
+        RefusalKind::TooManySites => b"TooManySites",
+        RefusalKind::TooManyFunctions => b"TooManyFunctions",
         RefusalKind::NotBuilt => b"NotBuilt",
     }
 }

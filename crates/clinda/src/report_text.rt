@@ -1,13 +1,12 @@
 ghost use Rattle.std.specs.Prelude.{◌≡◌, ◌+◌, ◌^◌, ◌<◌, ◌++◌, OnOk, IfOk, map, length};
-ghost use Rattle.cl_value.specs.Room.{Room};
 ghost use Rattle.cl_value.specs.Views.{plain_act, plain_end, plain_report, plain_history, plain_run};
 ghost use Rattle.cl_value.specs.Tickets.{by_ticket, acts_in};
 ghost use Rattle.cl_value.specs.Text.{escaped, escaped_all, tuple_text, trap_text, more_values_text, output_text, process_line, reports_text, status_line, run_text};
 ghost use Rattle.cl_value.specs.Text as printed;
-ghost use Rattle.clinda.specs.Tables.{table};
+ghost use Rattle.cl_listing.specs.Tables.{bytes_of};
 
 use crate::text::Text;
-use cl_value::{Act, End, History, Items, NoMemory, Report, RunReport, Trap, Tuple, Value};
+use cl_value::{Act, End, History, NoMemory, Report, RunReport, Trap, Tuple, Value};
 use std::alloc::Global;
 
 // Puts the bytes of a string literal at the end, as they are printed.
@@ -35,23 +34,18 @@ fn add_byte(text: &mut Text, byte: u8) -> Result<(), NoMemory>
 }
 
 // The text of a number in the table, or nothing.
-fn text_at(texts: &[Items<u8>], number: u32) -> &[u8]
-    ensures { result.now ≡ printed.text_in (table texts.now) number }
+fn text_at<'a>(texts: &[&'a [u8]], number: u32) -> &'a [u8]
+    ensures { result.now ≡ printed.text_in (map bytes_of texts.now) number }
 {
     match texts.get(number as usize) {
-        Some(text) => text.as_slice(),
+        Some(text) => text,
         None => &[],
     }
 }
 
 // Puts a value at the end, as it is printed.
-fn add_value(
-    alloc: Global,
-    text: &mut Text,
-    texts: &[Items<u8>],
-    value: Value,
-) -> Result<(), NoMemory>
-    ensures ok { OnOk result (text.new ≡ text.old ++ printed.value_text (table texts.now) value) }
+fn add_value(alloc: Global, text: &mut Text, texts: &[&[u8]], value: Value) -> Result<(), NoMemory>
+    ensures ok { OnOk result (text.new ≡ text.old ++ printed.value_text (map bytes_of texts.now) value) }
 {
     match value {
         Value::Int(number) => text.add_signed(alloc, i64::from(number)),
@@ -75,10 +69,10 @@ fn add_value(
 fn add_more_values(
     alloc: Global,
     text: &mut Text,
-    texts: &[Items<u8>],
+    texts: &[&[u8]],
     values: &[Value],
 ) -> Result<(), NoMemory>
-    ensures ok { OnOk result (text.new ≡ text.old ++ more_values_text (table texts.now) values.now) }
+    ensures ok { OnOk result (text.new ≡ text.old ++ more_values_text (map bytes_of texts.now) values.now) }
 {
     for value in values {
         text.add(b",")?;
@@ -91,10 +85,10 @@ fn add_more_values(
 fn add_values(
     alloc: Global,
     text: &mut Text,
-    texts: &[Items<u8>],
+    texts: &[&[u8]],
     values: &[Value],
 ) -> Result<(), NoMemory>
-    ensures ok { OnOk result (text.new ≡ text.old ++ printed.values_text (table texts.now) values.now) }
+    ensures ok { OnOk result (text.new ≡ text.old ++ printed.values_text (map bytes_of texts.now) values.now) }
 {
     match values {
         [] => Ok(()),
@@ -106,13 +100,8 @@ fn add_values(
 }
 
 // Puts a tuple at the end, as it is printed.
-fn add_tuple(
-    alloc: Global,
-    text: &mut Text,
-    texts: &[Items<u8>],
-    tuple: &Tuple,
-) -> Result<(), NoMemory>
-    ensures ok { OnOk result (text.new ≡ text.old ++ tuple_text (table texts.now) tuple.now.items) }
+fn add_tuple(alloc: Global, text: &mut Text, texts: &[&[u8]], tuple: &Tuple) -> Result<(), NoMemory>
+    ensures ok { OnOk result (text.new ≡ text.old ++ tuple_text (map bytes_of texts.now) tuple.now.items) }
 {
     text.add(b"(")?;
     add_values(alloc, text, texts, tuple.fields())?;
@@ -136,8 +125,8 @@ fn name_of(trap: Trap) -> &'static [u8]
 }
 
 // Puts the end of a process at the end.
-fn add_end(alloc: Global, text: &mut Text, texts: &[Items<u8>], end: &End) -> Result<(), NoMemory>
-    ensures ok { OnOk result (text.new ≡ text.old ++ printed.end_text (table texts.now) (plain_end end.now)) }
+fn add_end(alloc: Global, text: &mut Text, texts: &[&[u8]], end: &End) -> Result<(), NoMemory>
+    ensures ok { OnOk result (text.new ≡ text.old ++ printed.end_text (map bytes_of texts.now) (plain_end end.now)) }
 {
     match end {
         End::Ended(values) => {
@@ -166,10 +155,10 @@ fn add_end(alloc: Global, text: &mut Text, texts: &[Items<u8>], end: &End) -> Re
 fn add_process_line(
     alloc: Global,
     text: &mut Text,
-    texts: &[Items<u8>],
+    texts: &[&[u8]],
     report: &Report,
 ) -> Result<(), NoMemory>
-    ensures ok { OnOk result (text.new ≡ text.old ++ process_line (table texts.now) (plain_report report.now)) }
+    ensures ok { OnOk result (text.new ≡ text.old ++ process_line (map bytes_of texts.now) (plain_report report.now)) }
 {
     text.add(b"process ")?;
     text.add_number(alloc, report.name)?;
@@ -205,10 +194,10 @@ fn last_byte(bytes: &[u8]) -> u8
 fn add_reports(
     alloc: Global,
     text: &mut Text,
-    texts: &[Items<u8>],
+    texts: &[&[u8]],
     reports: &[Report],
 ) -> Result<(), NoMemory>
-    ensures ok { OnOk result (text.new ≡ text.old ++ reports_text (table texts.now) (map plain_report reports.now)) }
+    ensures ok { OnOk result (text.new ≡ text.old ++ reports_text (map bytes_of texts.now) (map plain_report reports.now)) }
 {
     for report in reports {
         add_process_line(alloc, text, texts, report)?;
@@ -249,9 +238,9 @@ fn acts_in_all(histories: &[History]) -> usize
 }
 
 /// The text of a run: the line of each process and what it printed, and the line of the status.
-pub fn render(alloc: Global, report: &RunReport, texts: &[Items<u8>]) -> Result<Text, NoMemory>
+pub fn render(alloc: Global, report: &RunReport, texts: &[&[u8]]) -> Result<Text, NoMemory>
     requires { length (acts_in (plain_run report.now).histories) < 2 ^ 64 }
-    ensures { IfOk result (λ text. text ≡ run_text (table texts.now) (plain_run report.now).reports (length (by_ticket (plain_run report.now).histories)) report.now.status) }
+    ensures { IfOk result (λ text. text ≡ run_text (map bytes_of texts.now) (plain_run report.now).reports (length (by_ticket (plain_run report.now).histories)) report.now.status) }
 {
     let mut text = Text::new(alloc);
     let reports = report.reports.as_slice();

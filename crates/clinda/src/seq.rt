@@ -1,71 +1,69 @@
 //! What the command `seq` makes of a source.
 
-ghost use Rattle.std.specs.Prelude.{◌≡◌, ◌^◌, ◌<◌, ◌≤◌, ℕ, [], true, length, IfOk, option_map};
+ghost use Rattle.std.specs.Prelude.{◌≡◌, ◌^◌, ◌<◌, ◌≤◌, ℕ, length, IfOk, option_map};
 ghost use Rattle.cl_value.specs.Tickets.{acts_in};
 ghost use Rattle.cl_value.specs.Views.{plain_run};
-ghost use Rattle.cl_model.specs.Commands.{Seq};
-ghost use Rattle.cl_model.specs.Small.{keeps_rules, operations_in, prints_in};
-ghost use Rattle.cl_model.specs.SmallViews.{plain_unit};
+ghost use Rattle.clinda.specs.Commands.{Seq};
+ghost use Rattle.clinda.specs.Commanded.{plain_options};
 ghost use Rattle.clinda.specs.Making.{IsRun, IsSaid, run_saying, Found};
 ghost use Rattle.clinda.specs.Making as making;
 ghost use Rattle.clinda.specs.Ran.{Ran};
 
+use crate::front::FrontEnd;
+use crate::judge::judge_source;
 use crate::outcome::{Outcome, Saying};
 use crate::refusal::refuse;
 use crate::report_text::render;
-use crate::running::run_small;
-use crate::small::{SmallEnd, read_small};
-use crate::tables::texts_of;
 use crate::text::Text;
-use cl_model::{Refusal, RefusalKind, SmallUnit};
+use crate::words::RunOptions;
+use cl_alone::run_alone;
+use cl_ast::Unit;
+use cl_listing::Listing;
 use cl_value::{NoMemory, RunReport, Steps};
 use std::alloc::Global;
 use std::marker::Brand;
 use std::sync::ledger::{Blank, Ledger};
 
-// Runs a unit and counts no steps.
+// Runs a tree and counts no steps.
 fn run_counted<L: Ledger>(
     alloc: Global,
-    unit: &SmallUnit,
+    unit: &Unit,
+    options: RunOptions,
     blank: Blank,
 ) -> Result<RunReport, NoMemory>
     requires name { blank.name ≡ L.name }
     requires parts { blank.parts ≡ L.parts }
     requires some { 0 < blank.parts }
-    requires rules { keeps_rules [] (plain_unit unit.now) ≡ true }
-    requires operations { operations_in (plain_unit unit.now) ≤ 1024 }
-    requires prints { prints_in (plain_unit unit.now) ≤ 1024 }
-    ensures good { IfOk result (λ run. IsRun (plain_unit unit.now) (plain_run run)) }
-    ensures few { IfOk result (λ run. length (acts_in (plain_run run).histories) ≤ 1024) }
+    ensures good { IfOk result (λ run. IsRun unit.now.items (plain_options options) (plain_run run)) }
+    ensures few { IfOk result (λ run. length (acts_in (plain_run run).histories) ≤ 1048576) }
 {
     let mut steps: Steps<L> = Steps::new(blank);
-    run_small(alloc, unit, &mut steps)
+    run_alone(alloc, unit, options.ticks(), options.entries(), &mut steps)
 }
 
-// Runs a unit.
-fn run(alloc: Global, unit: &SmallUnit) -> Result<RunReport, NoMemory>
-    requires rules { keeps_rules [] (plain_unit unit.now) ≡ true }
-    requires operations { operations_in (plain_unit unit.now) ≤ 1024 }
-    requires prints { prints_in (plain_unit unit.now) ≤ 1024 }
-    ensures good { IfOk result (λ run. IsRun (plain_unit unit.now) (plain_run run)) }
-    ensures few { IfOk result (λ run. length (acts_in (plain_run run).histories) ≤ 1024) }
+// Runs a tree.
+fn run(alloc: Global, unit: &Unit, options: RunOptions) -> Result<RunReport, NoMemory>
+    ensures good { IfOk result (λ run. IsRun unit.now.items (plain_options options) (plain_run run)) }
+    ensures few { IfOk result (λ run. length (acts_in (plain_run run).histories) ≤ 1048576) }
 {
-    run_counted::<Brand>(alloc, unit, Blank::new(1))
+    run_counted::<Brand>(alloc, unit, options, Blank::new(1))
 }
 
-// The text of a run of a unit.
-fn text_of(alloc: Global, unit: &SmallUnit, report: &RunReport) -> Result<Text, NoMemory>
+// The text of a run of a tree.
+fn text_of(alloc: Global, unit: &Unit, report: &RunReport) -> Result<Text, NoMemory>
     requires { length (acts_in (plain_run report.now).histories) < 2 ^ 64 }
-    ensures { IfOk result (λ text. text ≡ making.text_of (plain_unit unit.now) (plain_run report.now)) }
+    ensures { IfOk result (λ text. text ≡ making.text_of unit.now.items (plain_run report.now)) }
 {
-    let texts = texts_of(alloc, unit.items.as_slice())?;
-    render(alloc, report, texts.as_slice())
+    match Listing::new(alloc, unit) {
+        Ok(listing) => render(alloc, report, listing.texts()),
+        Err(_) => Err(NoMemory),
+    }
 }
 
-// What is to be said of a run of a unit.
-fn saying_of(alloc: Global, unit: &SmallUnit, report: &RunReport) -> Option<Saying>
+// What is to be said of a run of a tree.
+fn saying_of(alloc: Global, unit: &Unit, report: &RunReport) -> Option<Saying>
     requires { length (acts_in (plain_run report.now).histories) < 2 ^ 64 }
-    ensures { IsSaid result (run_saying (plain_unit unit.now) (plain_run report.now)) }
+    ensures { IsSaid result (run_saying unit.now.items (plain_run report.now)) }
 {
     match text_of(alloc, unit, report) {
         Ok(text) => Some(Saying {
@@ -76,14 +74,11 @@ fn saying_of(alloc: Global, unit: &SmallUnit, report: &RunReport) -> Option<Sayi
     }
 }
 
-// Runs a unit, and tells its run.
-fn run_unit(alloc: Global, unit: &SmallUnit) -> Outcome
-    requires rules { keeps_rules [] (plain_unit unit.now) ≡ true }
-    requires operations { operations_in (plain_unit unit.now) ≤ 1024 }
-    requires prints { prints_in (plain_unit unit.now) ≤ 1024 }
-    ensures { Ran (plain_unit unit.now) (option_map plain_run result.report) result.saying }
+// Runs a tree, and tells its run.
+fn run_unit(alloc: Global, unit: &Unit, options: RunOptions) -> Outcome
+    ensures { Ran unit.now.items (plain_options options) (option_map plain_run result.report) result.saying }
 {
-    let Ok(report) = run(alloc, unit) else {
+    let Ok(report) = run(alloc, unit, options) else {
         return Outcome::nothing();
     };
     let saying = saying_of(alloc, unit, &report);
@@ -94,19 +89,13 @@ fn run_unit(alloc: Global, unit: &SmallUnit) -> Outcome
 }
 
 /// Runs a source, or refuses it.
-pub fn run_source(alloc: Global, source: &[u8]) -> Outcome
+pub fn run_source(alloc: Global, source: &[u8], options: RunOptions) -> Outcome
     requires { length source.now ≤ 1048576 }
-    ensures { (seed : ℕ) → Found (Seq seed) source.now (option_map plain_run result.report) result.saying }
+    ensures { (seed : ℕ) → Found (Seq seed (plain_options options)) source.now (option_map plain_run result.report) result.saying }
 {
-    match read_small(alloc, source) {
-        Ok(unit) => run_unit(alloc, &unit),
-        Err(SmallEnd::NotBuilt { place }) => {
-            let refusal = Refusal {
-                kind: RefusalKind::NotBuilt,
-                place,
-            };
-            refuse(alloc, source, refusal)
-        }
-        Err(SmallEnd::NoMemory) => Outcome::nothing(),
+    match judge_source(alloc, source) {
+        Ok(typed) => run_unit(alloc, typed.unit(), options),
+        Err(FrontEnd::Refused(refusal)) => refuse(alloc, source, refusal),
+        Err(FrontEnd::NoMemory) => Outcome::nothing(),
     }
 }

@@ -15,10 +15,12 @@ pub struct TopEnd {
     /// - 0: the process ended, or the text was printed.
     /// - 1: the words spell no command.
     /// - 2: the source was refused.
+    /// - 3: the process ended by a trap.
     /// - 4: a read failed.
     /// - 5: a write failed.
     /// - 7: the process waits for good.
     /// - 8: want of memory.
+    /// - 9: the process ended at a full history.
     pub status: u8,
     /// There exactly where a process was run; with status 8 it may be missing.
     pub report: Option<RunReport>,
@@ -26,7 +28,7 @@ pub struct TopEnd {
 
 ghost use Rattle.std.specs.Prelude.{◌≡◌, ◌≤◌, length, option_map};
 ghost use Rattle.cl_value.specs.Views.{plain_run};
-ghost use Rattle.cl_model.specs.Commands.{most_bytes};
+ghost use Rattle.clinda.specs.Commands.{most_bytes};
 ghost use Rattle.clinda.specs.Words.{words_in};
 ghost use Rattle.clinda.specs.Commanded.{plain_command};
 ghost use Rattle.clinda.specs.Saying.{Said, Tells};
@@ -80,7 +82,7 @@ fn make(alloc: Global, command: Command, source: &[u8]) -> Outcome
     ensures { Found (plain_command command) source.now (option_map plain_run result.report) result.saying }
 {
     match command {
-        Command::Seq { .. } => run_source(alloc, source),
+        Command::Seq { options, .. } => run_source(alloc, source, options),
         Command::Print => print_source(alloc, source),
     }
 }
@@ -116,8 +118,8 @@ fn answer<I: Source, O: Sink>(alloc: Global, words: &[String], src: &mut I, out:
     }
 }
 
-/// Does the command that the words spell: `seq SEED` reads a source to its end, runs it and writes the text of
-/// its run, and `print` reads one and writes its canonical text. It returns for all words, sources and sinks.
+/// Does the command that the words spell: `seq SEED [steps=N]` reads a source to its end, runs it and writes the
+/// text of its run, and `print` reads one and writes its canonical text. It returns for all words, sources and sinks.
 ///
 /// The statuses are those of `TopEnd`. Want of memory may come at any place behind the words. A read that
 /// fails comes before the source is judged, and a write that fails makes the status 5 in place of the one
@@ -152,8 +154,8 @@ pub fn clinda_plain<I: Source, O: Sink>(
     ensures stuck { StuckClause (words_in words.now) result.status (option_map plain_run result.report) (seen I.left O.written I.faults O.faults src.old out.old) }
     // Each command has its list of statuses.
     ensures statuses { StatusesClause (words_in words.now) result.status }
-    // No process of this form halts its run but by want of memory.
-    ensures halted { HaltedClause result.status }
+    // Status 3, 6 and 9 come exactly where a process halted the run by a trap, want of a thread or a full history.
+    ensures halted { HaltedClause result.status (option_map plain_run result.report) }
     // Status 4 comes only where a read failed; then nothing is written.
     ensures read_fault { ReadFaultClause result.status (option_map plain_run result.report)
         (seen I.left O.written I.faults O.faults src.old out.old) (seen I.left O.written I.faults O.faults src.new out.new) }

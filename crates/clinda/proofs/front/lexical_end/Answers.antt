@@ -1,8 +1,8 @@
 use Rattle.std.proofs.Common.{subst, sym}
 use Rattle.cl_token.specs.Lexing.{IsFirstFault}
 use Rattle.cl_token.specs.declared.lexer.LexEnd.{LexEnd}
-use Rattle.cl_model.specs.declared.refusal.RefusalKind.{RefusalKind}
-use Rattle.cl_model.specs.Commands.{Print}
+use Rattle.clinda.specs.declared.refusal_kind.RefusalKind.{RefusalKind}
+use Rattle.clinda.specs.Commands.{Print}
 use Rattle.clinda.specs.FrontEnds.{StopsFront}
 use Rattle.clinda.specs.Making.{IsRefused}
 use Rattle.clinda.proofs.FrontLaws.{fault_refuses}

@@ -1,7 +1,7 @@
 use Rattle.std.proofs.Common.{ap}
 use Rattle.std.specs.Prelude.{option_map}
 use Rattle.cl_value.specs.Views.{plain_run}
-use Rattle.cl_model.specs.Commands.{Print}
+use Rattle.clinda.specs.Commands.{Print}
 use Rattle.clinda.specs.Making.{Unfound}
 use Rattle.clinda.proofs.Outcomes.{text_found, refusal_found}
 use Rattle.clinda.proofs.print.print_source.Goals as goal

@@ -1,5 +1,5 @@
 use Rattle.std.proofs.Common.{◌≡◌, ◌≤◌, ◌+◌, drop}
-use Rattle.cl_model.specs.Refusals.{line_from, column_from}
+use Rattle.clinda.specs.Refusals.{line_from, column_from}
 use Rattle.clinda.proofs.refusal.line_column.Given as goal
 
 -- where the rest goes on, and no number past the count of bytes

@@ -4,7 +4,7 @@ use Rattle.std.proofs.lemmas.List.{at_drop_all}
 use Rattle.cl_value.specs.Tickets.{acts_in}
 use Rattle.cl_value.specs.Views.{plain_history}
 use Rattle.cl_value.specs.declared.process.History.{History}
-use Rattle.clinda.proofs.Goods.{length_by_ticket}
+use Rattle.clinda.proofs.Tickets.{length_by_ticket}
 use Rattle.clinda.proofs.report_text.acts_in_all.Goals as goal
 
 pub returns : goal.returns

@@ -1,7 +1,7 @@
 use Rattle.std.proofs.Common.{ap}
 use Rattle.std.specs.Prelude.{option_map}
 use Rattle.cl_value.specs.Views.{plain_run}
-use Rattle.cl_model.specs.Commands.{Seq}
+use Rattle.clinda.specs.Commands.{Seq}
 use Rattle.cl_model.specs.SmallViews.{plain_unit}
 use Rattle.clinda.specs.Making.{Unfound}
 use Rattle.clinda.proofs.Outcomes.{unit_read, unit_refused, run_found, refusal_found}

@@ -1,7 +1,7 @@
 use Rattle.std.proofs.Common.{ap, refl}
 use Rattle.std.specs.Prelude.{option_map}
 use Rattle.cl_value.specs.Views.{plain_run}
-use Rattle.cl_model.specs.Refusals.{words_refused}
+use Rattle.clinda.specs.Refusals.{words_refused}
 use Rattle.clinda.specs.declared.top.TopEnd.{TopEnd}
 use Rattle.clinda.specs.Answering.{NoCommand, Commanded}
 use Rattle.clinda.specs.Commanded.{plain_command}

@@ -2,7 +2,7 @@ use Rattle.std.proofs.Common.{ap, arith, ◌∙◌, ◌+◌, refl, subst, sym, l
 use Rattle.std.specs.Prelude.{option_map}
 use Rattle.cl_value.specs.Views.{plain_run}
 use Rattle.cl_outside.specs.Streams.{TakesAll, Loses, LosesUpTo}
-use Rattle.cl_model.specs.Refusals.{too_large}
+use Rattle.clinda.specs.Refusals.{too_large}
 use Rattle.clinda.specs.declared.top.TopEnd.{TopEnd}
 use Rattle.clinda.specs.Commanded.{plain_command}
 use Rattle.clinda.specs.Making.{Found}
