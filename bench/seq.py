@@ -57,20 +57,26 @@ def with_globals(count, size):
     return text + "x" * (size - len(text))
 
 
-def seconds(program, source):
-    """The least of three times that the program takes for a source, and the line that the source prints."""
-    best = None
-    with tempfile.TemporaryFile() as file:
+def run(program, source):
+    """Runs a source: the seconds, the most kilobytes that the program held, and what it wrote."""
+    with tempfile.TemporaryFile() as file, tempfile.TemporaryFile() as text:
         file.write(source.encode())
-        for _ in range(3):
-            file.seek(0)
-            start = time.perf_counter()
-            done = subprocess.run(
-                [program, "seq", "1", f"steps={STEPS}"], stdin=file, stdout=subprocess.PIPE, check=True
-            )
-            spent = time.perf_counter() - start
-            best = spent if best is None else min(best, spent)
-    return best, done.stdout.decode().split("\n")[1]
+        file.seek(0)
+        start = time.perf_counter()
+        process = subprocess.Popen([program, "seq", "1", f"steps={STEPS}"], stdin=file, stdout=text)
+        _, status, usage = os.wait4(process.pid, 0)
+        spent = time.perf_counter() - start
+        process.returncode = os.waitstatus_to_exitcode(status)
+        text.seek(0)
+        written = text.read().decode()
+    assert process.returncode == 0, (process.returncode, written)
+    return spent, usage.ru_maxrss, written
+
+
+def seconds(program, source):
+    """The least seconds of three runs, the megabytes, and the line that the source prints."""
+    runs = [run(program, source) for _ in range(3)]
+    return min(run[0] for run in runs), runs[0][1] / 1000, runs[0][2].split("\n")[1]
 
 
 def seconds_here(function, count):
@@ -87,33 +93,33 @@ def seconds_here(function, count):
 def loops(program, name, source, function):
     before = None
     for count in COUNTS:
-        ours, printed = seconds(program, source(count))
+        ours, megabytes, printed = seconds(program, source(count))
         theirs, result = seconds_here(function, count)
         assert printed == result, (name, count, printed, result)
         growth = f"{ours / before:.1f}" if before else ""
-        print(f"| {name} | {count} | {ours:.3f} | {growth} | {theirs:.3f} | {ours / theirs:.1f} |", flush=True)
+        print(f"| {name} | {count} | {ours:.3f} | {growth} | {megabytes:.0f} | {theirs:.3f} | {ours / theirs:.1f} |")
         before = ours
 
 
 def sources(program):
     before = None
     for count, size in GLOBALS:
-        spent, printed = seconds(program, with_globals(count, size))
+        spent, megabytes, printed = seconds(program, with_globals(count, size))
         assert printed == "1", printed
         growth = f"{spent / before:.1f}" if before else ""
-        print(f"| {count} | {size} | {spent:.3f} | {growth} |", flush=True)
+        print(f"| {count} | {size} | {spent:.3f} | {growth} | {megabytes:.0f} |")
         before = spent
 
 
 def main():
     program = os.path.abspath(sys.argv[1])
-    print("| Loop | n | seconds | against n / 10 | python3, seconds | against python3 |")
-    print("|---|---|---|---|---|---|")
+    print("| Loop | n | seconds | against n / 10 | MB | python3, seconds | against python3 |")
+    print("|---|---|---|---|---|---|---|")
     loops(program, "arithmetic", arithmetic, arithmetic_here)
     loops(program, "tuples, n acts", tuples, tuples_here)
     print()
-    print("| Globals, and as many uses | bytes | seconds | against a tenth |")
-    print("|---|---|---|---|")
+    print("| Globals, and as many uses | bytes | seconds | against a tenth | MB |")
+    print("|---|---|---|---|---|")
     sources(program)
 
 
