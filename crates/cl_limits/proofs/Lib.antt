@@ -1,0 +1,7 @@
+pub mod Ahead
+pub mod Operations
+pub mod Expressions
+pub mod Statements
+pub mod Calls
+pub mod Demanded
+pub mod Laws
