@@ -1,9 +1,8 @@
 -- Steps that do as others do, but are ahead in ticks: a law for each piece of the notation.
-use Rattle.std.proofs.Common.{◌≡◌, ◌∙◌, ap, sym, refl, subst, ℕ, zero, suc, ◌+◌, ◌≤◌, Bool, true, false, List, [], ◌∷◌, ◌++◌, length, Option, Some, None, inl, inr, ⊎_elim, arith}
+use Rattle.std.proofs.Common.{◌≡◌, ap, sym, refl, subst, ℕ, zero, suc, ◌+◌, ◌≤◌, Bool, true, false, List, [], ◌∷◌, ◌++◌, length, inl, inr, ⊎_elim, arith}
 use Rattle.std.specs.Prelude.{◌⊎◌, nat_lt, if◌then◌else◌, Ok, Err}
 use Rattle.cl_value.specs.declared.process.Trap.{Trap}
-use Rattle.cl_value.specs.declared.process.Trap.TheVariants.{StepLimit, CellLimit, OutputLimit}
-use Rattle.cl_value.specs.declared.value.Value.{Value}
+use Rattle.cl_value.specs.declared.process.Trap.TheVariants.{StepLimit}
 use Rattle.cl_value.specs.Plain.{PlainRequest, PlainReply}
 use Rattle.cl_model.specs.Doing.{Steps, Gives, Prints, Asks, Stops, State, Does, Checked, counted, then_do, ◌>>=◌, ◌>>◌, pure, trap, ask, variables, set_variables, print, tick, ticks_left, claim, release, checked, each_onto, each, through}
 

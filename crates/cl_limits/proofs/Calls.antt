@@ -1,5 +1,5 @@
 -- Each call and each process goes as far with more ticks.
-use Rattle.std.proofs.Common.{◌≡◌, refl, ℕ, zero, suc, List, [], ◌∷◌, length, Bool, true, false, Option, Some, None}
+use Rattle.std.proofs.Common.{◌≡◌, refl, ℕ, zero, suc, List, [], ◌∷◌, Bool, true, false, Option, Some, None}
 use Rattle.std.specs.Prelude.{if◌then◌else◌, slice_get, pos, codes}
 use Rattle.cl_value.specs.declared.process.Trap.TheVariants.{CallDepth}
 use Rattle.cl_value.specs.declared.value.Value.{Value}
@@ -11,7 +11,6 @@ use Rattle.cl_ast.specs.declared.statement.Function.{Function}
 use Rattle.cl_ast.specs.declared.statement.Parameter.{Parameter}
 use Rattle.cl_ast.specs.declared.statement.Item.{Item}
 use Rattle.cl_listing.specs.Names.{Name, same_name}
-use Rattle.cl_model.specs.Doing.{◌>>=◌, ◌>>◌, pure, trap, tick}
 use Rattle.cl_meaning.specs.Operators.{converted, zero_of, field_type}
 use Rattle.cl_meaning.specs.Variables.{Variable, called_with, back_in}
 use Rattle.cl_meaning.specs.Operations.{Does}

@@ -1,32 +1,24 @@
 -- What is demanded by steps and by those that go as far with more ticks: no rule of the language is looked at.
-use Rattle.std.proofs.Common.{◌≡◌, ◌∙◌, ap, sym, subst, refl, ℕ, Bool, true, false, List, [], ◌∷◌, ◌++◌, inl, inr, ⊎_elim}
+use Rattle.std.proofs.Common.{◌≡◌, ◌∙◌, ap, sym, subst, refl, ℕ, Bool, true, false, List, [], ◌∷◌, ◌++◌, inl, inr, ⊎_elim, append-nil}
+use Rattle.std.proofs.lemmas.List.{append_assoc}
 use Rattle.std.specs.Prelude.{◌≢◌, ◌⊎◌, if◌then◌else◌}
-use Rattle.cl_value.specs.declared.process.Trap.{Trap}
 use Rattle.cl_value.specs.declared.process.Trap.TheVariants.{StepLimit}
 use Rattle.cl_value.specs.declared.value.Value.{Value}
 use Rattle.cl_value.specs.Plain.{PlainRequest, PlainReply}
 use Rattle.cl_value.specs.Acts.{fits}
 use Rattle.cl_model.specs.Demand.{Outcome, Traps, Misfit, Demand}
-use Rattle.cl_model.specs.Doing.{Steps, Gives, Prints, Asks, Stops, State, outcome_after, demand_of}
+use Rattle.cl_model.specs.Doing.{Steps, Gives, Prints, Asks, Stops, State, demand_of}
 use Rattle.cl_model.specs.Laws.{IsFront}
 use Rattle.cl_limits.specs.Ticks.{RanOut, GoesFurther}
 use Rattle.cl_limits.proofs.Ahead.{AsFar}
 
 -- ---- fronts
 
-append_nil : (xs : List ℕ) → xs ≡ xs ++ []
-append_nil [] = refl
-append_nil (x ∷ xs) = ap (λ ys. x ∷ ys) (append_nil xs)
-
-append_append : (xs ys zs : List ℕ) → (xs ++ ys) ++ zs ≡ xs ++ (ys ++ zs)
-append_append [] ys zs = refl
-append_append (x ∷ xs) ys zs = ap (λ r. x ∷ r) (append_append xs ys zs)
-
 all_of : (out : List ℕ) → IsFront out out
-all_of out = ([], append_nil out)
+all_of out = ([], sym (append-nil out))
 
 longer : (a b all : List ℕ) → IsFront (a ++ b) all → IsFront a all
-longer a b all p = (b ++ p.0, p.1 ∙ append_append a b p.0)
+longer a b all p = (b ++ p.0, p.1 ∙ append_assoc a b p.0)
 
 -- ---- by a test, of two demands
 

@@ -1,9 +1,9 @@
 -- Each expression goes as far with more ticks, where calls do: by induction on the tree.
-use Rattle.std.proofs.Common.{◌≡◌, ◌∙◌, ap, sym, subst, refl, ℕ, true, false, Bool, List, [], ◌∷◌, map, Option, Some, None}
-use Rattle.std.specs.Prelude.{not, if◌then◌else◌}
+use Rattle.std.proofs.Common.{◌≡◌, ◌∙◌, ap, sym, subst, ℕ, true, false, List, [], ◌∷◌, map, Option, Some, None}
+use Rattle.std.specs.Prelude.{not}
 use Rattle.cl_value.specs.declared.value.Value.{Value}
 use Rattle.cl_value.specs.declared.value.Value.TheVariants as values
-use Rattle.cl_value.specs.Plain.{PlainPart, Ready}
+use Rattle.cl_value.specs.Plain.{Ready}
 use Rattle.cl_ast.specs.declared.span.Span.{Span}
 use Rattle.cl_ast.specs.declared.tree.Name as names
 use Rattle.cl_ast.specs.declared.tree.Operator.{Operator}
@@ -21,18 +21,17 @@ use Rattle.cl_ast.specs.declared.tree.Link.{Link}
 use Rattle.cl_ast.specs.declared.tree.Prefix.{Prefix}
 use Rattle.cl_ast.specs.declared.tree.Expr.TheFolds as e
 use Rattle.cl_ast.specs.declared.tree.Expr.TheOpen.{Expr-F, Field-F, Call-F, Chain-F, Formal-F, Link-F, Operation-F, Place-F, Prefix-F}
-use Rattle.cl_ast.specs.declared.tree.Expr.TheViews.{roll-Expr, roll-Field, roll-Call, roll-Chain, roll-Formal, roll-Link, roll-Operation, roll-Place, roll-Prefix, out-Call, out-Chain, out-Formal, out-Link, out-Operation, out-Place, out-Prefix, out-roll-Call, out-roll-Chain, out-roll-Formal, out-roll-Link, out-roll-Operation, out-roll-Place, out-roll-Prefix}
+use Rattle.cl_ast.specs.declared.tree.Expr.TheViews.{roll-Expr, roll-Field, roll-Call, roll-Chain, roll-Formal, roll-Link, roll-Operation, roll-Place, roll-Prefix, out-roll-Call, out-roll-Chain, out-roll-Formal, out-roll-Link, out-roll-Operation, out-roll-Place, out-roll-Prefix}
 use Rattle.cl_listing.specs.Folds.{fold_call}
 use Rattle.cl_listing.specs.Names.{Name}
 use Rattle.cl_listing.proofs.Opens.{expr_rolls, field_rolls, place_opens, call_opens, operation_opens, formal_opens, chain_opens, link_opens, prefix_opens}
-use Rattle.cl_model.specs.Doing.{pure, checked}
 use Rattle.cl_model.specs.Numbers.{negated, truth, is_zero}
 use Rattle.cl_meaning.specs.Operators.{literal, operated}
 use Rattle.cl_meaning.specs.Operations.{Does, Aim, Holds}
 use Rattle.cl_meaning.specs.Expressions.{Surroundings, PlaceDoes, CallDoes, ExprDoes, FieldDoes, value_of, truth_of, joined, called, live_part, operation_by, expr_does, field_does, call_does, chain_does, formal_does, link_does, operation_does, place_does, prefix_does, expr_meant, value, place_meant, call, operation}
 use Rattle.cl_meaning.specs.Parts.{field_meant, link_meant, chain_meant, formal_meant, prefix_meant}
-use Rattle.cl_limits.proofs.Ahead.{Goes, GoEach, GoEachOf, goes_then, goes_also, goes_pure, goes_trap, goes_checked, goes_if, goes_each, goes_through}
-use Rattle.cl_limits.proofs.Operations.{MayGo, goes_place, goes_value_at, goes_formal, goes_requested, goes_evaluated}
+use Rattle.cl_limits.proofs.Ahead.{Goes, GoEach, GoEachOf, goes_then, goes_pure, goes_checked, goes_if, goes_each, goes_through}
+use Rattle.cl_limits.proofs.Operations.{goes_place, goes_value_at, goes_formal, goes_requested, goes_evaluated}
 
 -- what a process does in the calls of a text goes as far with more ticks
 pub record CallsGo (extra : ℕ) (around : Surroundings) : Type 0 where
@@ -121,88 +120,146 @@ module _ (extra : ℕ) where
 
     -- ---- a layer of the tree, each part with what is known of it
 
+    abbrev ExprHolds : Expr → Type 0
+    ExprHolds x = ExprGoes (expr_meant around x)
+
+    abbrev FieldHolds : Field → Type 0
+    FieldHolds x = FieldGoes (field_meant around x)
+
+    abbrev CallHolds : Call → Type 0
+    CallHolds x = CallGoes (call_meant x)
+
+    abbrev ChainHolds : Chain → Type 0
+    ChainHolds x = Goes extra (chain_meant around x)
+
+    abbrev FormalHolds : Formal → Type 0
+    FormalHolds x = Goes extra (formal_meant around x)
+
+    abbrev LinkHolds : Link → Type 0
+    LinkHolds x = LinkGoes (link_meant around x)
+
+    abbrev OperationHolds : Operation → Type 0
+    OperationHolds x = Goes extra (operation around x)
+
+    abbrev PlaceHolds : Place → Type 0
+    PlaceHolds x = PlaceGoes (place_meant around x)
+
+    abbrev PrefixHolds : Prefix → Type 0
+    PrefixHolds x = Goes extra (prefix_meant around x)
+
+    -- a part of a layer, with what holds of it
+
     abbrev SuchExpr : Type 0
-    SuchExpr = (y : Expr) × ExprGoes (expr_meant around y)
+    SuchExpr = (x : Expr) × ExprHolds x
 
     abbrev SuchField : Type 0
-    SuchField = (y : Field) × FieldGoes (field_meant around y)
+    SuchField = (x : Field) × FieldHolds x
 
     abbrev SuchCall : Type 0
-    SuchCall = (y : Call) × CallGoes (call_meant y)
+    SuchCall = (x : Call) × CallHolds x
 
     abbrev SuchChain : Type 0
-    SuchChain = (y : Chain) × Goes extra (chain_meant around y)
+    SuchChain = (x : Chain) × ChainHolds x
 
     abbrev SuchFormal : Type 0
-    SuchFormal = (y : Formal) × Goes extra (formal_meant around y)
+    SuchFormal = (x : Formal) × FormalHolds x
 
     abbrev SuchLink : Type 0
-    SuchLink = (y : Link) × LinkGoes (link_meant around y)
+    SuchLink = (x : Link) × LinkHolds x
 
     abbrev SuchOperation : Type 0
-    SuchOperation = (y : Operation) × Goes extra (operation around y)
+    SuchOperation = (x : Operation) × OperationHolds x
 
     abbrev SuchPlace : Type 0
-    SuchPlace = (y : Place) × PlaceGoes (place_meant around y)
+    SuchPlace = (x : Place) × PlaceHolds x
 
     abbrev SuchPrefix : Type 0
-    SuchPrefix = (y : Prefix) × Goes extra (prefix_meant around y)
+    SuchPrefix = (x : Prefix) × PrefixHolds x
 
-    abbrev plain-Expr : Expr-F SuchExpr SuchField SuchCall SuchChain SuchFormal SuchLink SuchOperation SuchPlace SuchPrefix → Expr-F Expr Field Call Chain Formal Link Operation Place Prefix
+    -- a layer of such parts; the layer without what holds of them; and the layer of what they do
+
+    abbrev ExprLayer : Type 0
+    ExprLayer = Expr-F SuchExpr SuchField SuchCall SuchChain SuchFormal SuchLink SuchOperation SuchPlace SuchPrefix
+
+    abbrev FieldLayer : Type 0
+    FieldLayer = Field-F SuchExpr SuchField SuchCall SuchChain SuchFormal SuchLink SuchOperation SuchPlace SuchPrefix
+
+    abbrev CallLayer : Type 0
+    CallLayer = Call-F SuchExpr SuchField SuchCall SuchChain SuchFormal SuchLink SuchOperation SuchPlace SuchPrefix
+
+    abbrev ChainLayer : Type 0
+    ChainLayer = Chain-F SuchExpr SuchField SuchCall SuchChain SuchFormal SuchLink SuchOperation SuchPlace SuchPrefix
+
+    abbrev FormalLayer : Type 0
+    FormalLayer = Formal-F SuchExpr SuchField SuchCall SuchChain SuchFormal SuchLink SuchOperation SuchPlace SuchPrefix
+
+    abbrev LinkLayer : Type 0
+    LinkLayer = Link-F SuchExpr SuchField SuchCall SuchChain SuchFormal SuchLink SuchOperation SuchPlace SuchPrefix
+
+    abbrev OperationLayer : Type 0
+    OperationLayer = Operation-F SuchExpr SuchField SuchCall SuchChain SuchFormal SuchLink SuchOperation SuchPlace SuchPrefix
+
+    abbrev PlaceLayer : Type 0
+    PlaceLayer = Place-F SuchExpr SuchField SuchCall SuchChain SuchFormal SuchLink SuchOperation SuchPlace SuchPrefix
+
+    abbrev PrefixLayer : Type 0
+    PrefixLayer = Prefix-F SuchExpr SuchField SuchCall SuchChain SuchFormal SuchLink SuchOperation SuchPlace SuchPrefix
+
+    abbrev plain-Expr : ExprLayer → Expr-F Expr Field Call Chain Formal Link Operation Place Prefix
     plain-Expr y = e.map-Expr SuchExpr SuchField SuchCall SuchChain SuchFormal SuchLink SuchOperation SuchPlace SuchPrefix Expr Field Call Chain Formal Link Operation Place Prefix (λ z. z.0) (λ z. z.0) (λ z. z.0) (λ z. z.0) (λ z. z.0) (λ z. z.0) (λ z. z.0) (λ z. z.0) (λ z. z.0) y
 
-    abbrev layer-Expr : Expr-F Expr Field Call Chain Formal Link Operation Place Prefix → Expr-F ExprDoes FieldDoes CallDoes (Does Value) (Does Aim) (Value → Does Value) (Does Value) PlaceDoes (Does Value)
-    layer-Expr y = e.map-Expr Expr Field Call Chain Formal Link Operation Place Prefix ExprDoes FieldDoes CallDoes (Does Value) (Does Aim) (Value → Does Value) (Does Value) PlaceDoes (Does Value) (expr_meant around) (field_meant around) call_meant (chain_meant around) (formal_meant around) (link_meant around) (operation around) (place_meant around) (prefix_meant around) y
-
-    abbrev plain-Field : Field-F SuchExpr SuchField SuchCall SuchChain SuchFormal SuchLink SuchOperation SuchPlace SuchPrefix → Field-F Expr Field Call Chain Formal Link Operation Place Prefix
+    abbrev plain-Field : FieldLayer → Field-F Expr Field Call Chain Formal Link Operation Place Prefix
     plain-Field y = e.map-Field SuchExpr SuchField SuchCall SuchChain SuchFormal SuchLink SuchOperation SuchPlace SuchPrefix Expr Field Call Chain Formal Link Operation Place Prefix (λ z. z.0) (λ z. z.0) (λ z. z.0) (λ z. z.0) (λ z. z.0) (λ z. z.0) (λ z. z.0) (λ z. z.0) (λ z. z.0) y
 
-    abbrev layer-Field : Field-F Expr Field Call Chain Formal Link Operation Place Prefix → Field-F ExprDoes FieldDoes CallDoes (Does Value) (Does Aim) (Value → Does Value) (Does Value) PlaceDoes (Does Value)
-    layer-Field y = e.map-Field Expr Field Call Chain Formal Link Operation Place Prefix ExprDoes FieldDoes CallDoes (Does Value) (Does Aim) (Value → Does Value) (Does Value) PlaceDoes (Does Value) (expr_meant around) (field_meant around) call_meant (chain_meant around) (formal_meant around) (link_meant around) (operation around) (place_meant around) (prefix_meant around) y
-
-    abbrev plain-Call : Call-F SuchExpr SuchField SuchCall SuchChain SuchFormal SuchLink SuchOperation SuchPlace SuchPrefix → Call-F Expr Field Call Chain Formal Link Operation Place Prefix
+    abbrev plain-Call : CallLayer → Call-F Expr Field Call Chain Formal Link Operation Place Prefix
     plain-Call y = e.map-Call SuchExpr SuchField SuchCall SuchChain SuchFormal SuchLink SuchOperation SuchPlace SuchPrefix Expr Field Call Chain Formal Link Operation Place Prefix (λ z. z.0) (λ z. z.0) (λ z. z.0) (λ z. z.0) (λ z. z.0) (λ z. z.0) (λ z. z.0) (λ z. z.0) (λ z. z.0) y
 
-    abbrev layer-Call : Call-F Expr Field Call Chain Formal Link Operation Place Prefix → Call-F ExprDoes FieldDoes CallDoes (Does Value) (Does Aim) (Value → Does Value) (Does Value) PlaceDoes (Does Value)
-    layer-Call y = e.map-Call Expr Field Call Chain Formal Link Operation Place Prefix ExprDoes FieldDoes CallDoes (Does Value) (Does Aim) (Value → Does Value) (Does Value) PlaceDoes (Does Value) (expr_meant around) (field_meant around) call_meant (chain_meant around) (formal_meant around) (link_meant around) (operation around) (place_meant around) (prefix_meant around) y
-
-    abbrev plain-Chain : Chain-F SuchExpr SuchField SuchCall SuchChain SuchFormal SuchLink SuchOperation SuchPlace SuchPrefix → Chain-F Expr Field Call Chain Formal Link Operation Place Prefix
+    abbrev plain-Chain : ChainLayer → Chain-F Expr Field Call Chain Formal Link Operation Place Prefix
     plain-Chain y = e.map-Chain SuchExpr SuchField SuchCall SuchChain SuchFormal SuchLink SuchOperation SuchPlace SuchPrefix Expr Field Call Chain Formal Link Operation Place Prefix (λ z. z.0) (λ z. z.0) (λ z. z.0) (λ z. z.0) (λ z. z.0) (λ z. z.0) (λ z. z.0) (λ z. z.0) (λ z. z.0) y
 
-    abbrev layer-Chain : Chain-F Expr Field Call Chain Formal Link Operation Place Prefix → Chain-F ExprDoes FieldDoes CallDoes (Does Value) (Does Aim) (Value → Does Value) (Does Value) PlaceDoes (Does Value)
-    layer-Chain y = e.map-Chain Expr Field Call Chain Formal Link Operation Place Prefix ExprDoes FieldDoes CallDoes (Does Value) (Does Aim) (Value → Does Value) (Does Value) PlaceDoes (Does Value) (expr_meant around) (field_meant around) call_meant (chain_meant around) (formal_meant around) (link_meant around) (operation around) (place_meant around) (prefix_meant around) y
-
-    abbrev plain-Formal : Formal-F SuchExpr SuchField SuchCall SuchChain SuchFormal SuchLink SuchOperation SuchPlace SuchPrefix → Formal-F Expr Field Call Chain Formal Link Operation Place Prefix
+    abbrev plain-Formal : FormalLayer → Formal-F Expr Field Call Chain Formal Link Operation Place Prefix
     plain-Formal y = e.map-Formal SuchExpr SuchField SuchCall SuchChain SuchFormal SuchLink SuchOperation SuchPlace SuchPrefix Expr Field Call Chain Formal Link Operation Place Prefix (λ z. z.0) (λ z. z.0) (λ z. z.0) (λ z. z.0) (λ z. z.0) (λ z. z.0) (λ z. z.0) (λ z. z.0) (λ z. z.0) y
 
-    abbrev layer-Formal : Formal-F Expr Field Call Chain Formal Link Operation Place Prefix → Formal-F ExprDoes FieldDoes CallDoes (Does Value) (Does Aim) (Value → Does Value) (Does Value) PlaceDoes (Does Value)
-    layer-Formal y = e.map-Formal Expr Field Call Chain Formal Link Operation Place Prefix ExprDoes FieldDoes CallDoes (Does Value) (Does Aim) (Value → Does Value) (Does Value) PlaceDoes (Does Value) (expr_meant around) (field_meant around) call_meant (chain_meant around) (formal_meant around) (link_meant around) (operation around) (place_meant around) (prefix_meant around) y
-
-    abbrev plain-Link : Link-F SuchExpr SuchField SuchCall SuchChain SuchFormal SuchLink SuchOperation SuchPlace SuchPrefix → Link-F Expr Field Call Chain Formal Link Operation Place Prefix
+    abbrev plain-Link : LinkLayer → Link-F Expr Field Call Chain Formal Link Operation Place Prefix
     plain-Link y = e.map-Link SuchExpr SuchField SuchCall SuchChain SuchFormal SuchLink SuchOperation SuchPlace SuchPrefix Expr Field Call Chain Formal Link Operation Place Prefix (λ z. z.0) (λ z. z.0) (λ z. z.0) (λ z. z.0) (λ z. z.0) (λ z. z.0) (λ z. z.0) (λ z. z.0) (λ z. z.0) y
 
-    abbrev layer-Link : Link-F Expr Field Call Chain Formal Link Operation Place Prefix → Link-F ExprDoes FieldDoes CallDoes (Does Value) (Does Aim) (Value → Does Value) (Does Value) PlaceDoes (Does Value)
-    layer-Link y = e.map-Link Expr Field Call Chain Formal Link Operation Place Prefix ExprDoes FieldDoes CallDoes (Does Value) (Does Aim) (Value → Does Value) (Does Value) PlaceDoes (Does Value) (expr_meant around) (field_meant around) call_meant (chain_meant around) (formal_meant around) (link_meant around) (operation around) (place_meant around) (prefix_meant around) y
-
-    abbrev plain-Operation : Operation-F SuchExpr SuchField SuchCall SuchChain SuchFormal SuchLink SuchOperation SuchPlace SuchPrefix → Operation-F Expr Field Call Chain Formal Link Operation Place Prefix
+    abbrev plain-Operation : OperationLayer → Operation-F Expr Field Call Chain Formal Link Operation Place Prefix
     plain-Operation y = e.map-Operation SuchExpr SuchField SuchCall SuchChain SuchFormal SuchLink SuchOperation SuchPlace SuchPrefix Expr Field Call Chain Formal Link Operation Place Prefix (λ z. z.0) (λ z. z.0) (λ z. z.0) (λ z. z.0) (λ z. z.0) (λ z. z.0) (λ z. z.0) (λ z. z.0) (λ z. z.0) y
 
-    abbrev layer-Operation : Operation-F Expr Field Call Chain Formal Link Operation Place Prefix → Operation-F ExprDoes FieldDoes CallDoes (Does Value) (Does Aim) (Value → Does Value) (Does Value) PlaceDoes (Does Value)
-    layer-Operation y = e.map-Operation Expr Field Call Chain Formal Link Operation Place Prefix ExprDoes FieldDoes CallDoes (Does Value) (Does Aim) (Value → Does Value) (Does Value) PlaceDoes (Does Value) (expr_meant around) (field_meant around) call_meant (chain_meant around) (formal_meant around) (link_meant around) (operation around) (place_meant around) (prefix_meant around) y
-
-    abbrev plain-Place : Place-F SuchExpr SuchField SuchCall SuchChain SuchFormal SuchLink SuchOperation SuchPlace SuchPrefix → Place-F Expr Field Call Chain Formal Link Operation Place Prefix
+    abbrev plain-Place : PlaceLayer → Place-F Expr Field Call Chain Formal Link Operation Place Prefix
     plain-Place y = e.map-Place SuchExpr SuchField SuchCall SuchChain SuchFormal SuchLink SuchOperation SuchPlace SuchPrefix Expr Field Call Chain Formal Link Operation Place Prefix (λ z. z.0) (λ z. z.0) (λ z. z.0) (λ z. z.0) (λ z. z.0) (λ z. z.0) (λ z. z.0) (λ z. z.0) (λ z. z.0) y
 
-    abbrev layer-Place : Place-F Expr Field Call Chain Formal Link Operation Place Prefix → Place-F ExprDoes FieldDoes CallDoes (Does Value) (Does Aim) (Value → Does Value) (Does Value) PlaceDoes (Does Value)
-    layer-Place y = e.map-Place Expr Field Call Chain Formal Link Operation Place Prefix ExprDoes FieldDoes CallDoes (Does Value) (Does Aim) (Value → Does Value) (Does Value) PlaceDoes (Does Value) (expr_meant around) (field_meant around) call_meant (chain_meant around) (formal_meant around) (link_meant around) (operation around) (place_meant around) (prefix_meant around) y
-
-    abbrev plain-Prefix : Prefix-F SuchExpr SuchField SuchCall SuchChain SuchFormal SuchLink SuchOperation SuchPlace SuchPrefix → Prefix-F Expr Field Call Chain Formal Link Operation Place Prefix
+    abbrev plain-Prefix : PrefixLayer → Prefix-F Expr Field Call Chain Formal Link Operation Place Prefix
     plain-Prefix y = e.map-Prefix SuchExpr SuchField SuchCall SuchChain SuchFormal SuchLink SuchOperation SuchPlace SuchPrefix Expr Field Call Chain Formal Link Operation Place Prefix (λ z. z.0) (λ z. z.0) (λ z. z.0) (λ z. z.0) (λ z. z.0) (λ z. z.0) (λ z. z.0) (λ z. z.0) (λ z. z.0) y
 
-    abbrev layer-Prefix : Prefix-F Expr Field Call Chain Formal Link Operation Place Prefix → Prefix-F ExprDoes FieldDoes CallDoes (Does Value) (Does Aim) (Value → Does Value) (Does Value) PlaceDoes (Does Value)
-    layer-Prefix y = e.map-Prefix Expr Field Call Chain Formal Link Operation Place Prefix ExprDoes FieldDoes CallDoes (Does Value) (Does Aim) (Value → Does Value) (Does Value) PlaceDoes (Does Value) (expr_meant around) (field_meant around) call_meant (chain_meant around) (formal_meant around) (link_meant around) (operation around) (place_meant around) (prefix_meant around) y
+    abbrev meant-Expr : Expr-F Expr Field Call Chain Formal Link Operation Place Prefix → Expr-F ExprDoes FieldDoes CallDoes (Does Value) (Does Aim) (Value → Does Value) (Does Value) PlaceDoes (Does Value)
+    meant-Expr y = e.map-Expr Expr Field Call Chain Formal Link Operation Place Prefix ExprDoes FieldDoes CallDoes (Does Value) (Does Aim) (Value → Does Value) (Does Value) PlaceDoes (Does Value) (expr_meant around) (field_meant around) call_meant (chain_meant around) (formal_meant around) (link_meant around) (operation around) (place_meant around) (prefix_meant around) y
 
-    expr_goes : (y : Expr-F SuchExpr SuchField SuchCall SuchChain SuchFormal SuchLink SuchOperation SuchPlace SuchPrefix) → ExprGoes (expr_does around (layer-Expr (plain-Expr y)))
+    abbrev meant-Field : Field-F Expr Field Call Chain Formal Link Operation Place Prefix → Field-F ExprDoes FieldDoes CallDoes (Does Value) (Does Aim) (Value → Does Value) (Does Value) PlaceDoes (Does Value)
+    meant-Field y = e.map-Field Expr Field Call Chain Formal Link Operation Place Prefix ExprDoes FieldDoes CallDoes (Does Value) (Does Aim) (Value → Does Value) (Does Value) PlaceDoes (Does Value) (expr_meant around) (field_meant around) call_meant (chain_meant around) (formal_meant around) (link_meant around) (operation around) (place_meant around) (prefix_meant around) y
+
+    abbrev meant-Call : Call-F Expr Field Call Chain Formal Link Operation Place Prefix → Call-F ExprDoes FieldDoes CallDoes (Does Value) (Does Aim) (Value → Does Value) (Does Value) PlaceDoes (Does Value)
+    meant-Call y = e.map-Call Expr Field Call Chain Formal Link Operation Place Prefix ExprDoes FieldDoes CallDoes (Does Value) (Does Aim) (Value → Does Value) (Does Value) PlaceDoes (Does Value) (expr_meant around) (field_meant around) call_meant (chain_meant around) (formal_meant around) (link_meant around) (operation around) (place_meant around) (prefix_meant around) y
+
+    abbrev meant-Chain : Chain-F Expr Field Call Chain Formal Link Operation Place Prefix → Chain-F ExprDoes FieldDoes CallDoes (Does Value) (Does Aim) (Value → Does Value) (Does Value) PlaceDoes (Does Value)
+    meant-Chain y = e.map-Chain Expr Field Call Chain Formal Link Operation Place Prefix ExprDoes FieldDoes CallDoes (Does Value) (Does Aim) (Value → Does Value) (Does Value) PlaceDoes (Does Value) (expr_meant around) (field_meant around) call_meant (chain_meant around) (formal_meant around) (link_meant around) (operation around) (place_meant around) (prefix_meant around) y
+
+    abbrev meant-Formal : Formal-F Expr Field Call Chain Formal Link Operation Place Prefix → Formal-F ExprDoes FieldDoes CallDoes (Does Value) (Does Aim) (Value → Does Value) (Does Value) PlaceDoes (Does Value)
+    meant-Formal y = e.map-Formal Expr Field Call Chain Formal Link Operation Place Prefix ExprDoes FieldDoes CallDoes (Does Value) (Does Aim) (Value → Does Value) (Does Value) PlaceDoes (Does Value) (expr_meant around) (field_meant around) call_meant (chain_meant around) (formal_meant around) (link_meant around) (operation around) (place_meant around) (prefix_meant around) y
+
+    abbrev meant-Link : Link-F Expr Field Call Chain Formal Link Operation Place Prefix → Link-F ExprDoes FieldDoes CallDoes (Does Value) (Does Aim) (Value → Does Value) (Does Value) PlaceDoes (Does Value)
+    meant-Link y = e.map-Link Expr Field Call Chain Formal Link Operation Place Prefix ExprDoes FieldDoes CallDoes (Does Value) (Does Aim) (Value → Does Value) (Does Value) PlaceDoes (Does Value) (expr_meant around) (field_meant around) call_meant (chain_meant around) (formal_meant around) (link_meant around) (operation around) (place_meant around) (prefix_meant around) y
+
+    abbrev meant-Operation : Operation-F Expr Field Call Chain Formal Link Operation Place Prefix → Operation-F ExprDoes FieldDoes CallDoes (Does Value) (Does Aim) (Value → Does Value) (Does Value) PlaceDoes (Does Value)
+    meant-Operation y = e.map-Operation Expr Field Call Chain Formal Link Operation Place Prefix ExprDoes FieldDoes CallDoes (Does Value) (Does Aim) (Value → Does Value) (Does Value) PlaceDoes (Does Value) (expr_meant around) (field_meant around) call_meant (chain_meant around) (formal_meant around) (link_meant around) (operation around) (place_meant around) (prefix_meant around) y
+
+    abbrev meant-Place : Place-F Expr Field Call Chain Formal Link Operation Place Prefix → Place-F ExprDoes FieldDoes CallDoes (Does Value) (Does Aim) (Value → Does Value) (Does Value) PlaceDoes (Does Value)
+    meant-Place y = e.map-Place Expr Field Call Chain Formal Link Operation Place Prefix ExprDoes FieldDoes CallDoes (Does Value) (Does Aim) (Value → Does Value) (Does Value) PlaceDoes (Does Value) (expr_meant around) (field_meant around) call_meant (chain_meant around) (formal_meant around) (link_meant around) (operation around) (place_meant around) (prefix_meant around) y
+
+    abbrev meant-Prefix : Prefix-F Expr Field Call Chain Formal Link Operation Place Prefix → Prefix-F ExprDoes FieldDoes CallDoes (Does Value) (Does Aim) (Value → Does Value) (Does Value) PlaceDoes (Does Value)
+    meant-Prefix y = e.map-Prefix Expr Field Call Chain Formal Link Operation Place Prefix ExprDoes FieldDoes CallDoes (Does Value) (Does Aim) (Value → Does Value) (Does Value) PlaceDoes (Does Value) (expr_meant around) (field_meant around) call_meant (chain_meant around) (formal_meant around) (link_meant around) (operation around) (place_meant around) (prefix_meant around) y
+
+    expr_goes : (y : ExprLayer) → ExprGoes (expr_does around (meant-Expr (plain-Expr y)))
     unfolding expr_does
     expr_goes (Expr-F.Literal x) = (goes_pure extra (literal x.value), tt)
     expr_goes (Expr-F.Place x) = (goes_then extra _ _ x.1 (λ k. goes_value_at extra (place_meant around x.0).name k), tt)
@@ -212,7 +269,7 @@ module _ (extra : ℕ) where
     expr_goes (Expr-F.Negate x) = (goes_then extra _ _ x.1 (λ v. goes_checked extra (negated v)), tt)
     expr_goes (Expr-F.Not x) = (goes_then extra _ _ x.1 (λ v. goes_pure extra (truth (is_zero v))), tt)
 
-    field_goes : (y : Field-F SuchExpr SuchField SuchCall SuchChain SuchFormal SuchLink SuchOperation SuchPlace SuchPrefix) → FieldGoes (field_does around (layer-Field (plain-Field y)))
+    field_goes : (y : FieldLayer) → FieldGoes (field_does around (meant-Field (plain-Field y)))
     unfolding field_does
     field_goes (Field-F.Text x) = (goes_pure extra (Holds (values.Text (around.text x.bytes))), goes_pure extra (Ready (values.Text (around.text x.bytes))))
     field_goes (Field-F.Formal x) = (x.1, goes_then extra _ _ x.1 (λ a. goes_pure extra (Ready (values.Text 0))))
@@ -222,7 +279,7 @@ module _ (extra : ℕ) where
     values_go [] = tt
     values_go (y ∷ ys) = (y.1.0, values_go ys)
 
-    call_goes : (y : Call-F SuchExpr SuchField SuchCall SuchChain SuchFormal SuchLink SuchOperation SuchPlace SuchPrefix) → CallGoes (call_does around (layer-Call (plain-Call y)))
+    call_goes : (y : CallLayer) → CallGoes (call_does around (meant-Call (plain-Call y)))
     unfolding call_does
     call_goes y = goes_each extra _ (values_go y.arguments)
 
@@ -230,15 +287,15 @@ module _ (extra : ℕ) where
     links_go [] = tt
     links_go (y ∷ ys) = (y.1, links_go ys)
 
-    chain_goes : (y : Chain-F SuchExpr SuchField SuchCall SuchChain SuchFormal SuchLink SuchOperation SuchPlace SuchPrefix) → Goes extra (chain_does around (layer-Chain (plain-Chain y)))
+    chain_goes : (y : ChainLayer) → Goes extra (chain_does around (meant-Chain (plain-Chain y)))
     unfolding chain_does
     chain_goes y = goes_then extra _ _ y.first.1.0 (λ v. goes_through extra _ (links_go y.others) v)
 
-    formal_goes : (y : Formal-F SuchExpr SuchField SuchCall SuchChain SuchFormal SuchLink SuchOperation SuchPlace SuchPrefix) → Goes extra (formal_does around (layer-Formal (plain-Formal y)))
+    formal_goes : (y : FormalLayer) → Goes extra (formal_does around (meant-Formal (plain-Formal y)))
     unfolding formal_does
     formal_goes y = goes_formal extra (place_meant around y.target.0).name _ y.target.1
 
-    link_goes : (y : Link-F SuchExpr SuchField SuchCall SuchChain SuchFormal SuchLink SuchOperation SuchPlace SuchPrefix) → LinkGoes (link_does around (layer-Link (plain-Link y)))
+    link_goes : (y : LinkLayer) → LinkGoes (link_does around (meant-Link (plain-Link y)))
     unfolding link_does
     link_goes y a = goes_joined y.operator _ y.operand.1.0 a
 
@@ -246,82 +303,109 @@ module _ (extra : ℕ) where
     fields_go [] = tt
     fields_go (y ∷ ys) = (y.1, fields_go ys)
 
-    operation_goes : (y : Operation-F SuchExpr SuchField SuchCall SuchChain SuchFormal SuchLink SuchOperation SuchPlace SuchPrefix) → Goes extra (operation_does around (layer-Operation (plain-Operation y)))
+    operation_goes : (y : OperationLayer) → Goes extra (operation_does around (meant-Operation (plain-Operation y)))
     unfolding operation_does
     operation_goes y = goes_operation y.verb (around.site y.span.start) _ (fields_go y.fields)
 
-    at_goes : (name : names.Name) (index : Option SuchExpr) (span : Span) → PlaceGoes (place_does around (layer-Place (plain-Place (record { name = name; index = index; span = span }))))
+    at_goes : (name : names.Name) (index : Option SuchExpr) (span : Span) → PlaceGoes (place_does around (meant-Place (plain-Place (record { name = name; index = index; span = span }))))
     unfolding place_does
     at_goes name None span = goes_place extra name.bytes None tt
     at_goes name (Some x) span = goes_place extra name.bytes (Some (expr_meant around x.0).value) x.1.0
 
-    place_goes : (y : Place-F SuchExpr SuchField SuchCall SuchChain SuchFormal SuchLink SuchOperation SuchPlace SuchPrefix) → PlaceGoes (place_does around (layer-Place (plain-Place y)))
+    place_goes : (y : PlaceLayer) → PlaceGoes (place_does around (meant-Place (plain-Place y)))
     place_goes y = at_goes y.name y.index y.span
 
-    prefix_goes : (y : Prefix-F SuchExpr SuchField SuchCall SuchChain SuchFormal SuchLink SuchOperation SuchPlace SuchPrefix) → Goes extra (prefix_does around (layer-Prefix (plain-Prefix y)))
+    prefix_goes : (y : PrefixLayer) → Goes extra (prefix_does around (meant-Prefix (plain-Prefix y)))
     unfolding prefix_does
     prefix_goes y = y.operand.1.0
 
     -- ---- each tree
 
-    expr_step : (y : Expr-F SuchExpr SuchField SuchCall SuchChain SuchFormal SuchLink SuchOperation SuchPlace SuchPrefix) → ExprGoes (expr_meant around (roll-Expr (plain-Expr y)))
+    expr_step : (y : ExprLayer) → ExprHolds (roll-Expr (plain-Expr y))
     unfolding expr_meant value place_meant call operation field_meant link_meant chain_meant formal_meant prefix_meant call_meant
     expr_step y = subst ExprGoes (sym (expr_rolls ExprDoes FieldDoes CallDoes (Does Value) (Does Aim) (Value → Does Value) (Does Value) PlaceDoes (Does Value) (expr_does around) (field_does around) (call_does around) (chain_does around) (formal_does around) (link_does around) (operation_does around) (place_does around) (prefix_does around) (plain-Expr y))) (expr_goes y)
 
-    field_step : (y : Field-F SuchExpr SuchField SuchCall SuchChain SuchFormal SuchLink SuchOperation SuchPlace SuchPrefix) → FieldGoes (field_meant around (roll-Field (plain-Field y)))
+    field_step : (y : FieldLayer) → FieldHolds (roll-Field (plain-Field y))
     unfolding expr_meant value place_meant call operation field_meant link_meant chain_meant formal_meant prefix_meant call_meant
     field_step y = subst FieldGoes (sym (field_rolls ExprDoes FieldDoes CallDoes (Does Value) (Does Aim) (Value → Does Value) (Does Value) PlaceDoes (Does Value) (expr_does around) (field_does around) (call_does around) (chain_does around) (formal_does around) (link_does around) (operation_does around) (place_does around) (prefix_does around) (plain-Field y))) (field_goes y)
 
-    call_step : (y : Call-F SuchExpr SuchField SuchCall SuchChain SuchFormal SuchLink SuchOperation SuchPlace SuchPrefix) → CallGoes (call_meant (roll-Call (plain-Call y)))
+    call_step : (y : CallLayer) → CallHolds (roll-Call (plain-Call y))
     unfolding expr_meant value place_meant call operation field_meant link_meant chain_meant formal_meant prefix_meant call_meant
-    call_step y = subst CallGoes (sym (call_opens ExprDoes FieldDoes CallDoes (Does Value) (Does Aim) (Value → Does Value) (Does Value) PlaceDoes (Does Value) (expr_does around) (field_does around) (call_does around) (chain_does around) (formal_does around) (link_does around) (operation_does around) (place_does around) (prefix_does around) (roll-Call (plain-Call y)) ∙ ap (λ z. call_does around (layer-Call z)) (out-roll-Call (plain-Call y)))) (call_goes y)
+    call_step y = subst CallGoes (sym (call_opens ExprDoes FieldDoes CallDoes (Does Value) (Does Aim) (Value → Does Value) (Does Value) PlaceDoes (Does Value) (expr_does around) (field_does around) (call_does around) (chain_does around) (formal_does around) (link_does around) (operation_does around) (place_does around) (prefix_does around) (roll-Call (plain-Call y)) ∙ ap (λ z. call_does around (meant-Call z)) (out-roll-Call (plain-Call y)))) (call_goes y)
 
-    chain_step : (y : Chain-F SuchExpr SuchField SuchCall SuchChain SuchFormal SuchLink SuchOperation SuchPlace SuchPrefix) → Goes extra (chain_meant around (roll-Chain (plain-Chain y)))
+    chain_step : (y : ChainLayer) → ChainHolds (roll-Chain (plain-Chain y))
     unfolding expr_meant value place_meant call operation field_meant link_meant chain_meant formal_meant prefix_meant call_meant
-    chain_step y = subst (λ (d : Does Value). Goes extra d) (sym (chain_opens ExprDoes FieldDoes CallDoes (Does Value) (Does Aim) (Value → Does Value) (Does Value) PlaceDoes (Does Value) (expr_does around) (field_does around) (call_does around) (chain_does around) (formal_does around) (link_does around) (operation_does around) (place_does around) (prefix_does around) (roll-Chain (plain-Chain y)) ∙ ap (λ z. chain_does around (layer-Chain z)) (out-roll-Chain (plain-Chain y)))) (chain_goes y)
+    chain_step y = subst (λ (d : Does Value). Goes extra d) (sym (chain_opens ExprDoes FieldDoes CallDoes (Does Value) (Does Aim) (Value → Does Value) (Does Value) PlaceDoes (Does Value) (expr_does around) (field_does around) (call_does around) (chain_does around) (formal_does around) (link_does around) (operation_does around) (place_does around) (prefix_does around) (roll-Chain (plain-Chain y)) ∙ ap (λ z. chain_does around (meant-Chain z)) (out-roll-Chain (plain-Chain y)))) (chain_goes y)
 
-    formal_step : (y : Formal-F SuchExpr SuchField SuchCall SuchChain SuchFormal SuchLink SuchOperation SuchPlace SuchPrefix) → Goes extra (formal_meant around (roll-Formal (plain-Formal y)))
+    formal_step : (y : FormalLayer) → FormalHolds (roll-Formal (plain-Formal y))
     unfolding expr_meant value place_meant call operation field_meant link_meant chain_meant formal_meant prefix_meant call_meant
-    formal_step y = subst (λ (d : Does Aim). Goes extra d) (sym (formal_opens ExprDoes FieldDoes CallDoes (Does Value) (Does Aim) (Value → Does Value) (Does Value) PlaceDoes (Does Value) (expr_does around) (field_does around) (call_does around) (chain_does around) (formal_does around) (link_does around) (operation_does around) (place_does around) (prefix_does around) (roll-Formal (plain-Formal y)) ∙ ap (λ z. formal_does around (layer-Formal z)) (out-roll-Formal (plain-Formal y)))) (formal_goes y)
+    formal_step y = subst (λ (d : Does Aim). Goes extra d) (sym (formal_opens ExprDoes FieldDoes CallDoes (Does Value) (Does Aim) (Value → Does Value) (Does Value) PlaceDoes (Does Value) (expr_does around) (field_does around) (call_does around) (chain_does around) (formal_does around) (link_does around) (operation_does around) (place_does around) (prefix_does around) (roll-Formal (plain-Formal y)) ∙ ap (λ z. formal_does around (meant-Formal z)) (out-roll-Formal (plain-Formal y)))) (formal_goes y)
 
-    link_step : (y : Link-F SuchExpr SuchField SuchCall SuchChain SuchFormal SuchLink SuchOperation SuchPlace SuchPrefix) → LinkGoes (link_meant around (roll-Link (plain-Link y)))
+    link_step : (y : LinkLayer) → LinkHolds (roll-Link (plain-Link y))
     unfolding expr_meant value place_meant call operation field_meant link_meant chain_meant formal_meant prefix_meant call_meant
-    link_step y = subst LinkGoes (sym (link_opens ExprDoes FieldDoes CallDoes (Does Value) (Does Aim) (Value → Does Value) (Does Value) PlaceDoes (Does Value) (expr_does around) (field_does around) (call_does around) (chain_does around) (formal_does around) (link_does around) (operation_does around) (place_does around) (prefix_does around) (roll-Link (plain-Link y)) ∙ ap (λ z. link_does around (layer-Link z)) (out-roll-Link (plain-Link y)))) (link_goes y)
+    link_step y = subst LinkGoes (sym (link_opens ExprDoes FieldDoes CallDoes (Does Value) (Does Aim) (Value → Does Value) (Does Value) PlaceDoes (Does Value) (expr_does around) (field_does around) (call_does around) (chain_does around) (formal_does around) (link_does around) (operation_does around) (place_does around) (prefix_does around) (roll-Link (plain-Link y)) ∙ ap (λ z. link_does around (meant-Link z)) (out-roll-Link (plain-Link y)))) (link_goes y)
 
-    operation_step : (y : Operation-F SuchExpr SuchField SuchCall SuchChain SuchFormal SuchLink SuchOperation SuchPlace SuchPrefix) → Goes extra (operation around (roll-Operation (plain-Operation y)))
+    operation_step : (y : OperationLayer) → OperationHolds (roll-Operation (plain-Operation y))
     unfolding expr_meant value place_meant call operation field_meant link_meant chain_meant formal_meant prefix_meant call_meant
-    operation_step y = subst (λ (d : Does Value). Goes extra d) (sym (operation_opens ExprDoes FieldDoes CallDoes (Does Value) (Does Aim) (Value → Does Value) (Does Value) PlaceDoes (Does Value) (expr_does around) (field_does around) (call_does around) (chain_does around) (formal_does around) (link_does around) (operation_does around) (place_does around) (prefix_does around) (roll-Operation (plain-Operation y)) ∙ ap (λ z. operation_does around (layer-Operation z)) (out-roll-Operation (plain-Operation y)))) (operation_goes y)
+    operation_step y = subst (λ (d : Does Value). Goes extra d) (sym (operation_opens ExprDoes FieldDoes CallDoes (Does Value) (Does Aim) (Value → Does Value) (Does Value) PlaceDoes (Does Value) (expr_does around) (field_does around) (call_does around) (chain_does around) (formal_does around) (link_does around) (operation_does around) (place_does around) (prefix_does around) (roll-Operation (plain-Operation y)) ∙ ap (λ z. operation_does around (meant-Operation z)) (out-roll-Operation (plain-Operation y)))) (operation_goes y)
 
-    place_step : (y : Place-F SuchExpr SuchField SuchCall SuchChain SuchFormal SuchLink SuchOperation SuchPlace SuchPrefix) → PlaceGoes (place_meant around (roll-Place (plain-Place y)))
+    place_step : (y : PlaceLayer) → PlaceHolds (roll-Place (plain-Place y))
     unfolding expr_meant value place_meant call operation field_meant link_meant chain_meant formal_meant prefix_meant call_meant
-    place_step y = subst PlaceGoes (sym (place_opens ExprDoes FieldDoes CallDoes (Does Value) (Does Aim) (Value → Does Value) (Does Value) PlaceDoes (Does Value) (expr_does around) (field_does around) (call_does around) (chain_does around) (formal_does around) (link_does around) (operation_does around) (place_does around) (prefix_does around) (roll-Place (plain-Place y)) ∙ ap (λ z. place_does around (layer-Place z)) (out-roll-Place (plain-Place y)))) (place_goes y)
+    place_step y = subst PlaceGoes (sym (place_opens ExprDoes FieldDoes CallDoes (Does Value) (Does Aim) (Value → Does Value) (Does Value) PlaceDoes (Does Value) (expr_does around) (field_does around) (call_does around) (chain_does around) (formal_does around) (link_does around) (operation_does around) (place_does around) (prefix_does around) (roll-Place (plain-Place y)) ∙ ap (λ z. place_does around (meant-Place z)) (out-roll-Place (plain-Place y)))) (place_goes y)
 
-    prefix_step : (y : Prefix-F SuchExpr SuchField SuchCall SuchChain SuchFormal SuchLink SuchOperation SuchPlace SuchPrefix) → Goes extra (prefix_meant around (roll-Prefix (plain-Prefix y)))
+    prefix_step : (y : PrefixLayer) → PrefixHolds (roll-Prefix (plain-Prefix y))
     unfolding expr_meant value place_meant call operation field_meant link_meant chain_meant formal_meant prefix_meant call_meant
-    prefix_step y = subst (λ (d : Does Value). Goes extra d) (sym (prefix_opens ExprDoes FieldDoes CallDoes (Does Value) (Does Aim) (Value → Does Value) (Does Value) PlaceDoes (Does Value) (expr_does around) (field_does around) (call_does around) (chain_does around) (formal_does around) (link_does around) (operation_does around) (place_does around) (prefix_does around) (roll-Prefix (plain-Prefix y)) ∙ ap (λ z. prefix_does around (layer-Prefix z)) (out-roll-Prefix (plain-Prefix y)))) (prefix_goes y)
+    prefix_step y = subst (λ (d : Does Value). Goes extra d) (sym (prefix_opens ExprDoes FieldDoes CallDoes (Does Value) (Does Aim) (Value → Does Value) (Does Value) PlaceDoes (Does Value) (expr_does around) (field_does around) (call_does around) (chain_does around) (formal_does around) (link_does around) (operation_does around) (place_does around) (prefix_does around) (roll-Prefix (plain-Prefix y)) ∙ ap (λ z. prefix_does around (meant-Prefix z)) (out-roll-Prefix (plain-Prefix y)))) (prefix_goes y)
 
-    every_expr : (x : Expr) → ExprGoes (expr_meant around x)
-    every_expr = e.ind-Expr (λ x. ExprGoes (expr_meant around x)) (λ x. FieldGoes (field_meant around x)) (λ x. CallGoes (call_meant x)) (λ x. Goes extra (chain_meant around x)) (λ x. Goes extra (formal_meant around x)) (λ x. LinkGoes (link_meant around x)) (λ x. Goes extra (operation around x)) (λ x. PlaceGoes (place_meant around x)) (λ x. Goes extra (prefix_meant around x)) (λ x y is. subst (λ (z : Expr-F Expr Field Call Chain Formal Link Operation Place Prefix). ExprGoes (expr_meant around (roll-Expr z))) is (expr_step y)) (λ x y is. subst (λ (z : Field-F Expr Field Call Chain Formal Link Operation Place Prefix). FieldGoes (field_meant around (roll-Field z))) is (field_step y)) (λ x y is. subst (λ (z : Call-F Expr Field Call Chain Formal Link Operation Place Prefix). CallGoes (call_meant (roll-Call z))) is (call_step y)) (λ x y is. subst (λ (z : Chain-F Expr Field Call Chain Formal Link Operation Place Prefix). Goes extra (chain_meant around (roll-Chain z))) is (chain_step y)) (λ x y is. subst (λ (z : Formal-F Expr Field Call Chain Formal Link Operation Place Prefix). Goes extra (formal_meant around (roll-Formal z))) is (formal_step y)) (λ x y is. subst (λ (z : Link-F Expr Field Call Chain Formal Link Operation Place Prefix). LinkGoes (link_meant around (roll-Link z))) is (link_step y)) (λ x y is. subst (λ (z : Operation-F Expr Field Call Chain Formal Link Operation Place Prefix). Goes extra (operation around (roll-Operation z))) is (operation_step y)) (λ x y is. subst (λ (z : Place-F Expr Field Call Chain Formal Link Operation Place Prefix). PlaceGoes (place_meant around (roll-Place z))) is (place_step y)) (λ x y is. subst (λ (z : Prefix-F Expr Field Call Chain Formal Link Operation Place Prefix). Goes extra (prefix_meant around (roll-Prefix z))) is (prefix_step y))
+    every-Expr : (x : Expr-F Expr Field Call Chain Formal Link Operation Place Prefix) (y : ExprLayer) → plain-Expr y ≡ x → ExprHolds (roll-Expr x)
+    every-Expr x y is = subst (λ z. ExprHolds (roll-Expr z)) is (expr_step y)
 
-    every_place : (x : Place) → PlaceGoes (place_meant around x)
-    every_place = e.ind-Place (λ x. ExprGoes (expr_meant around x)) (λ x. FieldGoes (field_meant around x)) (λ x. CallGoes (call_meant x)) (λ x. Goes extra (chain_meant around x)) (λ x. Goes extra (formal_meant around x)) (λ x. LinkGoes (link_meant around x)) (λ x. Goes extra (operation around x)) (λ x. PlaceGoes (place_meant around x)) (λ x. Goes extra (prefix_meant around x)) (λ x y is. subst (λ (z : Expr-F Expr Field Call Chain Formal Link Operation Place Prefix). ExprGoes (expr_meant around (roll-Expr z))) is (expr_step y)) (λ x y is. subst (λ (z : Field-F Expr Field Call Chain Formal Link Operation Place Prefix). FieldGoes (field_meant around (roll-Field z))) is (field_step y)) (λ x y is. subst (λ (z : Call-F Expr Field Call Chain Formal Link Operation Place Prefix). CallGoes (call_meant (roll-Call z))) is (call_step y)) (λ x y is. subst (λ (z : Chain-F Expr Field Call Chain Formal Link Operation Place Prefix). Goes extra (chain_meant around (roll-Chain z))) is (chain_step y)) (λ x y is. subst (λ (z : Formal-F Expr Field Call Chain Formal Link Operation Place Prefix). Goes extra (formal_meant around (roll-Formal z))) is (formal_step y)) (λ x y is. subst (λ (z : Link-F Expr Field Call Chain Formal Link Operation Place Prefix). LinkGoes (link_meant around (roll-Link z))) is (link_step y)) (λ x y is. subst (λ (z : Operation-F Expr Field Call Chain Formal Link Operation Place Prefix). Goes extra (operation around (roll-Operation z))) is (operation_step y)) (λ x y is. subst (λ (z : Place-F Expr Field Call Chain Formal Link Operation Place Prefix). PlaceGoes (place_meant around (roll-Place z))) is (place_step y)) (λ x y is. subst (λ (z : Prefix-F Expr Field Call Chain Formal Link Operation Place Prefix). Goes extra (prefix_meant around (roll-Prefix z))) is (prefix_step y))
+    every-Field : (x : Field-F Expr Field Call Chain Formal Link Operation Place Prefix) (y : FieldLayer) → plain-Field y ≡ x → FieldHolds (roll-Field x)
+    every-Field x y is = subst (λ z. FieldHolds (roll-Field z)) is (field_step y)
 
-    every_call : (x : Call) → CallGoes (call_meant x)
-    every_call = e.ind-Call (λ x. ExprGoes (expr_meant around x)) (λ x. FieldGoes (field_meant around x)) (λ x. CallGoes (call_meant x)) (λ x. Goes extra (chain_meant around x)) (λ x. Goes extra (formal_meant around x)) (λ x. LinkGoes (link_meant around x)) (λ x. Goes extra (operation around x)) (λ x. PlaceGoes (place_meant around x)) (λ x. Goes extra (prefix_meant around x)) (λ x y is. subst (λ (z : Expr-F Expr Field Call Chain Formal Link Operation Place Prefix). ExprGoes (expr_meant around (roll-Expr z))) is (expr_step y)) (λ x y is. subst (λ (z : Field-F Expr Field Call Chain Formal Link Operation Place Prefix). FieldGoes (field_meant around (roll-Field z))) is (field_step y)) (λ x y is. subst (λ (z : Call-F Expr Field Call Chain Formal Link Operation Place Prefix). CallGoes (call_meant (roll-Call z))) is (call_step y)) (λ x y is. subst (λ (z : Chain-F Expr Field Call Chain Formal Link Operation Place Prefix). Goes extra (chain_meant around (roll-Chain z))) is (chain_step y)) (λ x y is. subst (λ (z : Formal-F Expr Field Call Chain Formal Link Operation Place Prefix). Goes extra (formal_meant around (roll-Formal z))) is (formal_step y)) (λ x y is. subst (λ (z : Link-F Expr Field Call Chain Formal Link Operation Place Prefix). LinkGoes (link_meant around (roll-Link z))) is (link_step y)) (λ x y is. subst (λ (z : Operation-F Expr Field Call Chain Formal Link Operation Place Prefix). Goes extra (operation around (roll-Operation z))) is (operation_step y)) (λ x y is. subst (λ (z : Place-F Expr Field Call Chain Formal Link Operation Place Prefix). PlaceGoes (place_meant around (roll-Place z))) is (place_step y)) (λ x y is. subst (λ (z : Prefix-F Expr Field Call Chain Formal Link Operation Place Prefix). Goes extra (prefix_meant around (roll-Prefix z))) is (prefix_step y))
+    every-Call : (x : Call-F Expr Field Call Chain Formal Link Operation Place Prefix) (y : CallLayer) → plain-Call y ≡ x → CallHolds (roll-Call x)
+    every-Call x y is = subst (λ z. CallHolds (roll-Call z)) is (call_step y)
 
-    every_operation : (x : Operation) → Goes extra (operation around x)
-    every_operation = e.ind-Operation (λ x. ExprGoes (expr_meant around x)) (λ x. FieldGoes (field_meant around x)) (λ x. CallGoes (call_meant x)) (λ x. Goes extra (chain_meant around x)) (λ x. Goes extra (formal_meant around x)) (λ x. LinkGoes (link_meant around x)) (λ x. Goes extra (operation around x)) (λ x. PlaceGoes (place_meant around x)) (λ x. Goes extra (prefix_meant around x)) (λ x y is. subst (λ (z : Expr-F Expr Field Call Chain Formal Link Operation Place Prefix). ExprGoes (expr_meant around (roll-Expr z))) is (expr_step y)) (λ x y is. subst (λ (z : Field-F Expr Field Call Chain Formal Link Operation Place Prefix). FieldGoes (field_meant around (roll-Field z))) is (field_step y)) (λ x y is. subst (λ (z : Call-F Expr Field Call Chain Formal Link Operation Place Prefix). CallGoes (call_meant (roll-Call z))) is (call_step y)) (λ x y is. subst (λ (z : Chain-F Expr Field Call Chain Formal Link Operation Place Prefix). Goes extra (chain_meant around (roll-Chain z))) is (chain_step y)) (λ x y is. subst (λ (z : Formal-F Expr Field Call Chain Formal Link Operation Place Prefix). Goes extra (formal_meant around (roll-Formal z))) is (formal_step y)) (λ x y is. subst (λ (z : Link-F Expr Field Call Chain Formal Link Operation Place Prefix). LinkGoes (link_meant around (roll-Link z))) is (link_step y)) (λ x y is. subst (λ (z : Operation-F Expr Field Call Chain Formal Link Operation Place Prefix). Goes extra (operation around (roll-Operation z))) is (operation_step y)) (λ x y is. subst (λ (z : Place-F Expr Field Call Chain Formal Link Operation Place Prefix). PlaceGoes (place_meant around (roll-Place z))) is (place_step y)) (λ x y is. subst (λ (z : Prefix-F Expr Field Call Chain Formal Link Operation Place Prefix). Goes extra (prefix_meant around (roll-Prefix z))) is (prefix_step y))
+    every-Chain : (x : Chain-F Expr Field Call Chain Formal Link Operation Place Prefix) (y : ChainLayer) → plain-Chain y ≡ x → ChainHolds (roll-Chain x)
+    every-Chain x y is = subst (λ z. ChainHolds (roll-Chain z)) is (chain_step y)
+
+    every-Formal : (x : Formal-F Expr Field Call Chain Formal Link Operation Place Prefix) (y : FormalLayer) → plain-Formal y ≡ x → FormalHolds (roll-Formal x)
+    every-Formal x y is = subst (λ z. FormalHolds (roll-Formal z)) is (formal_step y)
+
+    every-Link : (x : Link-F Expr Field Call Chain Formal Link Operation Place Prefix) (y : LinkLayer) → plain-Link y ≡ x → LinkHolds (roll-Link x)
+    every-Link x y is = subst (λ z. LinkHolds (roll-Link z)) is (link_step y)
+
+    every-Operation : (x : Operation-F Expr Field Call Chain Formal Link Operation Place Prefix) (y : OperationLayer) → plain-Operation y ≡ x → OperationHolds (roll-Operation x)
+    every-Operation x y is = subst (λ z. OperationHolds (roll-Operation z)) is (operation_step y)
+
+    every-Place : (x : Place-F Expr Field Call Chain Formal Link Operation Place Prefix) (y : PlaceLayer) → plain-Place y ≡ x → PlaceHolds (roll-Place x)
+    every-Place x y is = subst (λ z. PlaceHolds (roll-Place z)) is (place_step y)
+
+    every-Prefix : (x : Prefix-F Expr Field Call Chain Formal Link Operation Place Prefix) (y : PrefixLayer) → plain-Prefix y ≡ x → PrefixHolds (roll-Prefix x)
+    every-Prefix x y is = subst (λ z. PrefixHolds (roll-Prefix z)) is (prefix_step y)
+
+    expr_holds : (x : Expr) → ExprHolds x
+    expr_holds = e.ind-Expr ExprHolds FieldHolds CallHolds ChainHolds FormalHolds LinkHolds OperationHolds PlaceHolds PrefixHolds every-Expr every-Field every-Call every-Chain every-Formal every-Link every-Operation every-Place every-Prefix
+
+    place_holds : (x : Place) → PlaceHolds x
+    place_holds = e.ind-Place ExprHolds FieldHolds CallHolds ChainHolds FormalHolds LinkHolds OperationHolds PlaceHolds PrefixHolds every-Expr every-Field every-Call every-Chain every-Formal every-Link every-Operation every-Place every-Prefix
+
+    call_holds : (x : Call) → CallHolds x
+    call_holds = e.ind-Call ExprHolds FieldHolds CallHolds ChainHolds FormalHolds LinkHolds OperationHolds PlaceHolds PrefixHolds every-Expr every-Field every-Call every-Chain every-Formal every-Link every-Operation every-Place every-Prefix
+
+    operation_holds : (x : Operation) → OperationHolds x
+    operation_holds = e.ind-Operation ExprHolds FieldHolds CallHolds ChainHolds FormalHolds LinkHolds OperationHolds PlaceHolds PrefixHolds every-Expr every-Field every-Call every-Chain every-Formal every-Link every-Operation every-Place every-Prefix
 
     pub goes_value : (x : Expr) → Goes extra (value around x)
     unfolding value
-    goes_value x = (every_expr x).0
+    goes_value x = (expr_holds x).0
 
     pub goes_at : (p : Place) → Goes extra (place_meant around p).at
-    goes_at p = every_place p
+    goes_at p = place_holds p
 
     pub goes_call : (c : Call) → Goes extra (call around c)
     unfolding call call_meant
-    goes_call c = goes_called (call_meant c) (every_call c)
+    goes_call c = goes_called (call_meant c) (call_holds c)
 
     pub goes_operated : (o : Operation) → Goes extra (operation around o)
-    goes_operated o = every_operation o
+    goes_operated o = operation_holds o

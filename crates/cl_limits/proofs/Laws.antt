@@ -1,10 +1,9 @@
 -- Ticks change no more than that of any process of any text.
-use Rattle.std.proofs.Common.{◌≡◌, subst, ℕ, ◌+◌, ◌-◌, ◌≤◌, List, arith}
+use Rattle.std.proofs.Common.{◌≡◌, subst, ℕ, ◌+◌, ◌-◌, List, arith}
 use Rattle.cl_value.specs.Plain.{PlainStart}
 use Rattle.cl_ast.specs.declared.statement.Item.{Item}
 use Rattle.cl_meaning.specs.Process.{begun, process, demands}
 use Rattle.cl_limits.specs.Ticks.{GoesFurther, OnlyTicks}
-use Rattle.cl_limits.proofs.Ahead.{ahead}
 use Rattle.cl_limits.proofs.Calls.{goes_process}
 use Rattle.cl_limits.proofs.Demanded.{further}
 

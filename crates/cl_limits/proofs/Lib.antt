@@ -5,3 +5,5 @@ pub mod Statements
 pub mod Calls
 pub mod Demanded
 pub mod Laws
+mod Writing
+mod Rows

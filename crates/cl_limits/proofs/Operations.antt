@@ -1,15 +1,14 @@
 -- Places of variables and tuple operations go as far with more ticks, where their parts do.
-use Rattle.std.proofs.Common.{◌≡◌, refl, ℕ, true, false, List, [], ◌∷◌, length, Option, Some, None}
+use Rattle.std.proofs.Common.{ℕ, true, false, List, [], ◌∷◌, length, Option, Some, None}
 use Rattle.std.specs.Prelude.{nat_lt}
 use Rattle.cl_value.specs.declared.process.Trap.TheVariants.{EvalDepth}
 use Rattle.cl_value.specs.declared.value.Value.{Value}
 use Rattle.cl_value.specs.Plain.{PlainPart, Eval, PlainReply, Done, Got, Miss}
 use Rattle.cl_ast.specs.declared.tree.Verb.{Verb}
-use Rattle.cl_model.specs.Doing.{pure, ask, checked}
 use Rattle.cl_model.specs.Numbers.{number, truth}
 use Rattle.cl_listing.specs.Names.{Name}
 use Rattle.cl_meaning.specs.Operators.{converted}
-use Rattle.cl_meaning.specs.Variables.{Variables, found, element, with_element, changed}
+use Rattle.cl_meaning.specs.Variables.{found, element, with_element, changed}
 use Rattle.cl_meaning.specs.Operations.{Does, index_of, variable, place, value_at, store, Aim, Holds, Fills, formal, fill, asked, received, requested, evaluated}
 use Rattle.cl_limits.proofs.Ahead.{Goes, GoEach, goes_then, goes_also, goes_pure, goes_trap, goes_checked, goes_if, goes_ask, goes_variables, goes_set_variables, goes_each}
 

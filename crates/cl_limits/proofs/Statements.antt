@@ -1,7 +1,6 @@
 -- Each statement goes as far with more ticks, where calls do: by induction on the tree. A loop goes by the ticks that are left.
-use Rattle.std.proofs.Common.{◌≡◌, ◌∙◌, ap, sym, subst, refl, ℕ, zero, suc, ◌+◌, ◌≤◌, true, false, Bool, List, [], ◌∷◌, map, replicate, Option, Some, None, arith}
-use Rattle.std.specs.Prelude.{if◌then◌else◌, pos}
-use Rattle.cl_value.specs.declared.process.Trap.TheVariants.{StepLimit}
+use Rattle.std.proofs.Common.{◌≡◌, ◌∙◌, ap, sym, subst, ℕ, zero, suc, ◌+◌, ◌≤◌, List, [], ◌∷◌, map, replicate, Option, Some, None, arith}
+use Rattle.std.specs.Prelude.{pos}
 use Rattle.cl_value.specs.declared.value.Value.{Value}
 use Rattle.cl_value.specs.declared.value.Value.TheVariants.{Int}
 use Rattle.cl_ast.specs.declared.span.Span.{Span}
@@ -29,7 +28,6 @@ use Rattle.cl_ast.specs.declared.statement.Print.{Print}
 use Rattle.cl_ast.specs.declared.tree.Spanned.{Spanned}
 use Rattle.cl_listing.specs.Names.{Name}
 use Rattle.cl_listing.proofs.Opens.{gd, gf, gi, gw, stmt_rolls, block_opens, do_opens, for_opens, if_opens, while_opens}
-use Rattle.cl_model.specs.Doing.{◌>>=◌, ◌>>◌, pure, trap, print, tick, checked}
 use Rattle.cl_model.specs.Numbers.{is_zero}
 use Rattle.cl_meaning.specs.Operators.{converted, zero_of, operated}
 use Rattle.cl_meaning.specs.Variables.{declared, entered, left}
@@ -189,61 +187,101 @@ module _ (extra : ℕ) where
     abbrev while_meant : While → Does Exit
     while_meant = gw (Does Exit) (Does Exit) (Does Exit) (Does Exit) (Does Exit) (Does Exit) (stmt_does around length_of) (block_does around length_of) (do_does around length_of) (for_does around length_of) (if_does around length_of) (while_does around length_of)
 
+    abbrev StmtHolds : Stmt → Type 0
+    StmtHolds x = Goes extra (does around length_of x)
+
+    abbrev BlockHolds : Block → Type 0
+    BlockHolds x = Goes extra (body_does around length_of x)
+
+    abbrev DoHolds : Do → Type 0
+    DoHolds x = Goes extra (do_meant x)
+
+    abbrev ForHolds : For → Type 0
+    ForHolds x = Goes extra (for_meant x)
+
+    abbrev IfHolds : If → Type 0
+    IfHolds x = Goes extra (if_meant x)
+
+    abbrev WhileHolds : While → Type 0
+    WhileHolds x = Goes extra (while_meant x)
+
+    -- a part of a layer, with what holds of it
+
     abbrev SuchStmt : Type 0
-    SuchStmt = (y : Stmt) × Goes extra (does around length_of y)
+    SuchStmt = (x : Stmt) × StmtHolds x
 
     abbrev SuchBlock : Type 0
-    SuchBlock = (y : Block) × Goes extra (body_does around length_of y)
+    SuchBlock = (x : Block) × BlockHolds x
 
     abbrev SuchDo : Type 0
-    SuchDo = (y : Do) × Goes extra (do_meant y)
+    SuchDo = (x : Do) × DoHolds x
 
     abbrev SuchFor : Type 0
-    SuchFor = (y : For) × Goes extra (for_meant y)
+    SuchFor = (x : For) × ForHolds x
 
     abbrev SuchIf : Type 0
-    SuchIf = (y : If) × Goes extra (if_meant y)
+    SuchIf = (x : If) × IfHolds x
 
     abbrev SuchWhile : Type 0
-    SuchWhile = (y : While) × Goes extra (while_meant y)
+    SuchWhile = (x : While) × WhileHolds x
 
-    abbrev plain-Stmt : Stmt-F SuchStmt SuchBlock SuchDo SuchFor SuchIf SuchWhile → Stmt-F Stmt Block Do For If While
+    -- a layer of such parts; the layer without what holds of them; and the layer of what they do
+
+    abbrev StmtLayer : Type 0
+    StmtLayer = Stmt-F SuchStmt SuchBlock SuchDo SuchFor SuchIf SuchWhile
+
+    abbrev BlockLayer : Type 0
+    BlockLayer = Block-F SuchStmt SuchBlock SuchDo SuchFor SuchIf SuchWhile
+
+    abbrev DoLayer : Type 0
+    DoLayer = Do-F SuchStmt SuchBlock SuchDo SuchFor SuchIf SuchWhile
+
+    abbrev ForLayer : Type 0
+    ForLayer = For-F SuchStmt SuchBlock SuchDo SuchFor SuchIf SuchWhile
+
+    abbrev IfLayer : Type 0
+    IfLayer = If-F SuchStmt SuchBlock SuchDo SuchFor SuchIf SuchWhile
+
+    abbrev WhileLayer : Type 0
+    WhileLayer = While-F SuchStmt SuchBlock SuchDo SuchFor SuchIf SuchWhile
+
+    abbrev plain-Stmt : StmtLayer → Stmt-F Stmt Block Do For If While
     plain-Stmt y = s.map-Stmt SuchStmt SuchBlock SuchDo SuchFor SuchIf SuchWhile Stmt Block Do For If While (λ z. z.0) (λ z. z.0) (λ z. z.0) (λ z. z.0) (λ z. z.0) (λ z. z.0) y
 
-    abbrev layer-Stmt : Stmt-F Stmt Block Do For If While → Stmt-F (Does Exit) (Does Exit) (Does Exit) (Does Exit) (Does Exit) (Does Exit)
-    layer-Stmt y = s.map-Stmt Stmt Block Do For If While (Does Exit) (Does Exit) (Does Exit) (Does Exit) (Does Exit) (Does Exit) (does around length_of) (body_does around length_of) do_meant for_meant if_meant while_meant y
-
-    abbrev plain-Block : Block-F SuchStmt SuchBlock SuchDo SuchFor SuchIf SuchWhile → Block-F Stmt Block Do For If While
+    abbrev plain-Block : BlockLayer → Block-F Stmt Block Do For If While
     plain-Block y = s.map-Block SuchStmt SuchBlock SuchDo SuchFor SuchIf SuchWhile Stmt Block Do For If While (λ z. z.0) (λ z. z.0) (λ z. z.0) (λ z. z.0) (λ z. z.0) (λ z. z.0) y
 
-    abbrev layer-Block : Block-F Stmt Block Do For If While → Block-F (Does Exit) (Does Exit) (Does Exit) (Does Exit) (Does Exit) (Does Exit)
-    layer-Block y = s.map-Block Stmt Block Do For If While (Does Exit) (Does Exit) (Does Exit) (Does Exit) (Does Exit) (Does Exit) (does around length_of) (body_does around length_of) do_meant for_meant if_meant while_meant y
-
-    abbrev plain-Do : Do-F SuchStmt SuchBlock SuchDo SuchFor SuchIf SuchWhile → Do-F Stmt Block Do For If While
+    abbrev plain-Do : DoLayer → Do-F Stmt Block Do For If While
     plain-Do y = s.map-Do SuchStmt SuchBlock SuchDo SuchFor SuchIf SuchWhile Stmt Block Do For If While (λ z. z.0) (λ z. z.0) (λ z. z.0) (λ z. z.0) (λ z. z.0) (λ z. z.0) y
 
-    abbrev layer-Do : Do-F Stmt Block Do For If While → Do-F (Does Exit) (Does Exit) (Does Exit) (Does Exit) (Does Exit) (Does Exit)
-    layer-Do y = s.map-Do Stmt Block Do For If While (Does Exit) (Does Exit) (Does Exit) (Does Exit) (Does Exit) (Does Exit) (does around length_of) (body_does around length_of) do_meant for_meant if_meant while_meant y
-
-    abbrev plain-For : For-F SuchStmt SuchBlock SuchDo SuchFor SuchIf SuchWhile → For-F Stmt Block Do For If While
+    abbrev plain-For : ForLayer → For-F Stmt Block Do For If While
     plain-For y = s.map-For SuchStmt SuchBlock SuchDo SuchFor SuchIf SuchWhile Stmt Block Do For If While (λ z. z.0) (λ z. z.0) (λ z. z.0) (λ z. z.0) (λ z. z.0) (λ z. z.0) y
 
-    abbrev layer-For : For-F Stmt Block Do For If While → For-F (Does Exit) (Does Exit) (Does Exit) (Does Exit) (Does Exit) (Does Exit)
-    layer-For y = s.map-For Stmt Block Do For If While (Does Exit) (Does Exit) (Does Exit) (Does Exit) (Does Exit) (Does Exit) (does around length_of) (body_does around length_of) do_meant for_meant if_meant while_meant y
-
-    abbrev plain-If : If-F SuchStmt SuchBlock SuchDo SuchFor SuchIf SuchWhile → If-F Stmt Block Do For If While
+    abbrev plain-If : IfLayer → If-F Stmt Block Do For If While
     plain-If y = s.map-If SuchStmt SuchBlock SuchDo SuchFor SuchIf SuchWhile Stmt Block Do For If While (λ z. z.0) (λ z. z.0) (λ z. z.0) (λ z. z.0) (λ z. z.0) (λ z. z.0) y
 
-    abbrev layer-If : If-F Stmt Block Do For If While → If-F (Does Exit) (Does Exit) (Does Exit) (Does Exit) (Does Exit) (Does Exit)
-    layer-If y = s.map-If Stmt Block Do For If While (Does Exit) (Does Exit) (Does Exit) (Does Exit) (Does Exit) (Does Exit) (does around length_of) (body_does around length_of) do_meant for_meant if_meant while_meant y
-
-    abbrev plain-While : While-F SuchStmt SuchBlock SuchDo SuchFor SuchIf SuchWhile → While-F Stmt Block Do For If While
+    abbrev plain-While : WhileLayer → While-F Stmt Block Do For If While
     plain-While y = s.map-While SuchStmt SuchBlock SuchDo SuchFor SuchIf SuchWhile Stmt Block Do For If While (λ z. z.0) (λ z. z.0) (λ z. z.0) (λ z. z.0) (λ z. z.0) (λ z. z.0) y
 
-    abbrev layer-While : While-F Stmt Block Do For If While → While-F (Does Exit) (Does Exit) (Does Exit) (Does Exit) (Does Exit) (Does Exit)
-    layer-While y = s.map-While Stmt Block Do For If While (Does Exit) (Does Exit) (Does Exit) (Does Exit) (Does Exit) (Does Exit) (does around length_of) (body_does around length_of) do_meant for_meant if_meant while_meant y
+    abbrev meant-Stmt : Stmt-F Stmt Block Do For If While → Stmt-F (Does Exit) (Does Exit) (Does Exit) (Does Exit) (Does Exit) (Does Exit)
+    meant-Stmt y = s.map-Stmt Stmt Block Do For If While (Does Exit) (Does Exit) (Does Exit) (Does Exit) (Does Exit) (Does Exit) (does around length_of) (body_does around length_of) do_meant for_meant if_meant while_meant y
 
-    stmt_goes : (y : Stmt-F SuchStmt SuchBlock SuchDo SuchFor SuchIf SuchWhile) → Goes extra (stmt_does around length_of (layer-Stmt (plain-Stmt y)))
+    abbrev meant-Block : Block-F Stmt Block Do For If While → Block-F (Does Exit) (Does Exit) (Does Exit) (Does Exit) (Does Exit) (Does Exit)
+    meant-Block y = s.map-Block Stmt Block Do For If While (Does Exit) (Does Exit) (Does Exit) (Does Exit) (Does Exit) (Does Exit) (does around length_of) (body_does around length_of) do_meant for_meant if_meant while_meant y
+
+    abbrev meant-Do : Do-F Stmt Block Do For If While → Do-F (Does Exit) (Does Exit) (Does Exit) (Does Exit) (Does Exit) (Does Exit)
+    meant-Do y = s.map-Do Stmt Block Do For If While (Does Exit) (Does Exit) (Does Exit) (Does Exit) (Does Exit) (Does Exit) (does around length_of) (body_does around length_of) do_meant for_meant if_meant while_meant y
+
+    abbrev meant-For : For-F Stmt Block Do For If While → For-F (Does Exit) (Does Exit) (Does Exit) (Does Exit) (Does Exit) (Does Exit)
+    meant-For y = s.map-For Stmt Block Do For If While (Does Exit) (Does Exit) (Does Exit) (Does Exit) (Does Exit) (Does Exit) (does around length_of) (body_does around length_of) do_meant for_meant if_meant while_meant y
+
+    abbrev meant-If : If-F Stmt Block Do For If While → If-F (Does Exit) (Does Exit) (Does Exit) (Does Exit) (Does Exit) (Does Exit)
+    meant-If y = s.map-If Stmt Block Do For If While (Does Exit) (Does Exit) (Does Exit) (Does Exit) (Does Exit) (Does Exit) (does around length_of) (body_does around length_of) do_meant for_meant if_meant while_meant y
+
+    abbrev meant-While : While-F Stmt Block Do For If While → While-F (Does Exit) (Does Exit) (Does Exit) (Does Exit) (Does Exit) (Does Exit)
+    meant-While y = s.map-While Stmt Block Do For If While (Does Exit) (Does Exit) (Does Exit) (Does Exit) (Does Exit) (Does Exit) (does around length_of) (body_does around length_of) do_meant for_meant if_meant while_meant y
+
+    stmt_goes : (y : StmtLayer) → Goes extra (stmt_does around length_of (meant-Stmt (plain-Stmt y)))
     unfolding stmt_does
     stmt_goes (Stmt-F.Block x) = goes_scoped _ x.1
     stmt_goes (Stmt-F.Empty x) = goes_pure extra WentOn
@@ -264,63 +302,81 @@ module _ (extra : ℕ) where
     statements_go [] = tt
     statements_go (y ∷ ys) = (y.1, statements_go ys)
 
-    block_goes : (y : Block-F SuchStmt SuchBlock SuchDo SuchFor SuchIf SuchWhile) → Goes extra (block_does around length_of (layer-Block (plain-Block y)))
+    block_goes : (y : BlockLayer) → Goes extra (block_does around length_of (meant-Block (plain-Block y)))
     unfolding block_does
     block_goes y = goes_in_order _ (statements_go y.statements)
 
-    do_goes : (y : Do-F SuchStmt SuchBlock SuchDo SuchFor SuchIf SuchWhile) → Goes extra (do_does around length_of (layer-Do (plain-Do y)))
+    do_goes : (y : DoLayer) → Goes extra (do_does around length_of (meant-Do (plain-Do y)))
     unfolding do_does
     do_goes y = goes_do_loop _ _ (goes y.test) y.body.1
 
     for_parts : (first : Option SuchStmt) (test : Option Expr) (step : Option SuchStmt) (body : SuchStmt) (span : Span) →
-        Goes extra (for_does around length_of (layer-For (plain-For (record { first = first; test = test; step = step; body = body; span = span }))))
+        Goes extra (for_does around length_of (meant-For (plain-For (record { first = first; test = test; step = step; body = body; span = span }))))
     unfolding for_does
     for_parts None test None body span = goes_also extra _ _ (goes_or_nothing None tt) (goes_loop _ _ (goes_or_true test) body.1 _ (goes_or_nothing None tt))
     for_parts None test (Some y) body span = goes_also extra _ _ (goes_or_nothing None tt) (goes_loop _ _ (goes_or_true test) body.1 _ (goes_or_nothing (Some _) y.1))
     for_parts (Some x) test None body span = goes_also extra _ _ (goes_or_nothing (Some _) x.1) (goes_loop _ _ (goes_or_true test) body.1 _ (goes_or_nothing None tt))
     for_parts (Some x) test (Some y) body span = goes_also extra _ _ (goes_or_nothing (Some _) x.1) (goes_loop _ _ (goes_or_true test) body.1 _ (goes_or_nothing (Some _) y.1))
 
-    for_goes : (y : For-F SuchStmt SuchBlock SuchDo SuchFor SuchIf SuchWhile) → Goes extra (for_does around length_of (layer-For (plain-For y)))
+    for_goes : (y : ForLayer) → Goes extra (for_does around length_of (meant-For (plain-For y)))
     for_goes y = for_parts y.first y.test y.step y.body y.span
 
-    if_parts : (test : Expr) (chosen : SuchStmt) (other : Option SuchStmt) (span : Span) → Goes extra (if_does around length_of (layer-If (plain-If (record { test = test; yes = chosen; no = other; span = span }))))
+    if_parts : (test : Expr) (chosen : SuchStmt) (other : Option SuchStmt) (span : Span) → Goes extra (if_does around length_of (meant-If (plain-If (record { test = test; yes = chosen; no = other; span = span }))))
     unfolding if_does
     if_parts test chosen None span = goes_then extra _ _ (goes test) (λ v. goes_if extra (is_zero v) _ _ (goes_or_nothing None tt) chosen.1)
     if_parts test chosen (Some other) span = goes_then extra _ _ (goes test) (λ v. goes_if extra (is_zero v) _ _ (goes_or_nothing (Some _) other.1) chosen.1)
 
-    if_goes : (y : If-F SuchStmt SuchBlock SuchDo SuchFor SuchIf SuchWhile) → Goes extra (if_does around length_of (layer-If (plain-If y)))
+    if_goes : (y : IfLayer) → Goes extra (if_does around length_of (meant-If (plain-If y)))
     if_goes y = if_parts y.test y.yes y.no y.span
 
-    while_goes : (y : While-F SuchStmt SuchBlock SuchDo SuchFor SuchIf SuchWhile) → Goes extra (while_does around length_of (layer-While (plain-While y)))
+    while_goes : (y : WhileLayer) → Goes extra (while_does around length_of (meant-While (plain-While y)))
     unfolding while_does
     while_goes y = goes_loop _ _ (goes y.test) y.body.1 _ (goes_pure extra WentOn)
 
     -- ---- each tree
 
-    stmt_step : (y : Stmt-F SuchStmt SuchBlock SuchDo SuchFor SuchIf SuchWhile) → Goes extra (does around length_of (roll-Stmt (plain-Stmt y)))
+    stmt_step : (y : StmtLayer) → StmtHolds (roll-Stmt (plain-Stmt y))
     unfolding does body_does
     stmt_step y = subst (λ (d : Does Exit). Goes extra d) (sym (stmt_rolls (Does Exit) (Does Exit) (Does Exit) (Does Exit) (Does Exit) (Does Exit) (stmt_does around length_of) (block_does around length_of) (do_does around length_of) (for_does around length_of) (if_does around length_of) (while_does around length_of) (plain-Stmt y))) (stmt_goes y)
 
-    block_step : (y : Block-F SuchStmt SuchBlock SuchDo SuchFor SuchIf SuchWhile) → Goes extra (body_does around length_of (roll-Block (plain-Block y)))
+    block_step : (y : BlockLayer) → BlockHolds (roll-Block (plain-Block y))
     unfolding does body_does
-    block_step y = subst (λ (d : Does Exit). Goes extra d) (sym (block_opens (Does Exit) (Does Exit) (Does Exit) (Does Exit) (Does Exit) (Does Exit) (stmt_does around length_of) (block_does around length_of) (do_does around length_of) (for_does around length_of) (if_does around length_of) (while_does around length_of) (roll-Block (plain-Block y)) ∙ ap (λ z. block_does around length_of (layer-Block z)) (out-roll-Block (plain-Block y)))) (block_goes y)
+    block_step y = subst (λ (d : Does Exit). Goes extra d) (sym (block_opens (Does Exit) (Does Exit) (Does Exit) (Does Exit) (Does Exit) (Does Exit) (stmt_does around length_of) (block_does around length_of) (do_does around length_of) (for_does around length_of) (if_does around length_of) (while_does around length_of) (roll-Block (plain-Block y)) ∙ ap (λ z. block_does around length_of (meant-Block z)) (out-roll-Block (plain-Block y)))) (block_goes y)
 
-    do_step : (y : Do-F SuchStmt SuchBlock SuchDo SuchFor SuchIf SuchWhile) → Goes extra (do_meant (roll-Do (plain-Do y)))
+    do_step : (y : DoLayer) → DoHolds (roll-Do (plain-Do y))
     unfolding does body_does
-    do_step y = subst (λ (d : Does Exit). Goes extra d) (sym (do_opens (Does Exit) (Does Exit) (Does Exit) (Does Exit) (Does Exit) (Does Exit) (stmt_does around length_of) (block_does around length_of) (do_does around length_of) (for_does around length_of) (if_does around length_of) (while_does around length_of) (roll-Do (plain-Do y)) ∙ ap (λ z. do_does around length_of (layer-Do z)) (out-roll-Do (plain-Do y)))) (do_goes y)
+    do_step y = subst (λ (d : Does Exit). Goes extra d) (sym (do_opens (Does Exit) (Does Exit) (Does Exit) (Does Exit) (Does Exit) (Does Exit) (stmt_does around length_of) (block_does around length_of) (do_does around length_of) (for_does around length_of) (if_does around length_of) (while_does around length_of) (roll-Do (plain-Do y)) ∙ ap (λ z. do_does around length_of (meant-Do z)) (out-roll-Do (plain-Do y)))) (do_goes y)
 
-    for_step : (y : For-F SuchStmt SuchBlock SuchDo SuchFor SuchIf SuchWhile) → Goes extra (for_meant (roll-For (plain-For y)))
+    for_step : (y : ForLayer) → ForHolds (roll-For (plain-For y))
     unfolding does body_does
-    for_step y = subst (λ (d : Does Exit). Goes extra d) (sym (for_opens (Does Exit) (Does Exit) (Does Exit) (Does Exit) (Does Exit) (Does Exit) (stmt_does around length_of) (block_does around length_of) (do_does around length_of) (for_does around length_of) (if_does around length_of) (while_does around length_of) (roll-For (plain-For y)) ∙ ap (λ z. for_does around length_of (layer-For z)) (out-roll-For (plain-For y)))) (for_goes y)
+    for_step y = subst (λ (d : Does Exit). Goes extra d) (sym (for_opens (Does Exit) (Does Exit) (Does Exit) (Does Exit) (Does Exit) (Does Exit) (stmt_does around length_of) (block_does around length_of) (do_does around length_of) (for_does around length_of) (if_does around length_of) (while_does around length_of) (roll-For (plain-For y)) ∙ ap (λ z. for_does around length_of (meant-For z)) (out-roll-For (plain-For y)))) (for_goes y)
 
-    if_step : (y : If-F SuchStmt SuchBlock SuchDo SuchFor SuchIf SuchWhile) → Goes extra (if_meant (roll-If (plain-If y)))
+    if_step : (y : IfLayer) → IfHolds (roll-If (plain-If y))
     unfolding does body_does
-    if_step y = subst (λ (d : Does Exit). Goes extra d) (sym (if_opens (Does Exit) (Does Exit) (Does Exit) (Does Exit) (Does Exit) (Does Exit) (stmt_does around length_of) (block_does around length_of) (do_does around length_of) (for_does around length_of) (if_does around length_of) (while_does around length_of) (roll-If (plain-If y)) ∙ ap (λ z. if_does around length_of (layer-If z)) (out-roll-If (plain-If y)))) (if_goes y)
+    if_step y = subst (λ (d : Does Exit). Goes extra d) (sym (if_opens (Does Exit) (Does Exit) (Does Exit) (Does Exit) (Does Exit) (Does Exit) (stmt_does around length_of) (block_does around length_of) (do_does around length_of) (for_does around length_of) (if_does around length_of) (while_does around length_of) (roll-If (plain-If y)) ∙ ap (λ z. if_does around length_of (meant-If z)) (out-roll-If (plain-If y)))) (if_goes y)
 
-    while_step : (y : While-F SuchStmt SuchBlock SuchDo SuchFor SuchIf SuchWhile) → Goes extra (while_meant (roll-While (plain-While y)))
+    while_step : (y : WhileLayer) → WhileHolds (roll-While (plain-While y))
     unfolding does body_does
-    while_step y = subst (λ (d : Does Exit). Goes extra d) (sym (while_opens (Does Exit) (Does Exit) (Does Exit) (Does Exit) (Does Exit) (Does Exit) (stmt_does around length_of) (block_does around length_of) (do_does around length_of) (for_does around length_of) (if_does around length_of) (while_does around length_of) (roll-While (plain-While y)) ∙ ap (λ z. while_does around length_of (layer-While z)) (out-roll-While (plain-While y)))) (while_goes y)
+    while_step y = subst (λ (d : Does Exit). Goes extra d) (sym (while_opens (Does Exit) (Does Exit) (Does Exit) (Does Exit) (Does Exit) (Does Exit) (stmt_does around length_of) (block_does around length_of) (do_does around length_of) (for_does around length_of) (if_does around length_of) (while_does around length_of) (roll-While (plain-While y)) ∙ ap (λ z. while_does around length_of (meant-While z)) (out-roll-While (plain-While y)))) (while_goes y)
+
+    every-Stmt : (x : Stmt-F Stmt Block Do For If While) (y : StmtLayer) → plain-Stmt y ≡ x → StmtHolds (roll-Stmt x)
+    every-Stmt x y is = subst (λ z. StmtHolds (roll-Stmt z)) is (stmt_step y)
+
+    every-Block : (x : Block-F Stmt Block Do For If While) (y : BlockLayer) → plain-Block y ≡ x → BlockHolds (roll-Block x)
+    every-Block x y is = subst (λ z. BlockHolds (roll-Block z)) is (block_step y)
+
+    every-Do : (x : Do-F Stmt Block Do For If While) (y : DoLayer) → plain-Do y ≡ x → DoHolds (roll-Do x)
+    every-Do x y is = subst (λ z. DoHolds (roll-Do z)) is (do_step y)
+
+    every-For : (x : For-F Stmt Block Do For If While) (y : ForLayer) → plain-For y ≡ x → ForHolds (roll-For x)
+    every-For x y is = subst (λ z. ForHolds (roll-For z)) is (for_step y)
+
+    every-If : (x : If-F Stmt Block Do For If While) (y : IfLayer) → plain-If y ≡ x → IfHolds (roll-If x)
+    every-If x y is = subst (λ z. IfHolds (roll-If z)) is (if_step y)
+
+    every-While : (x : While-F Stmt Block Do For If While) (y : WhileLayer) → plain-While y ≡ x → WhileHolds (roll-While x)
+    every-While x y is = subst (λ z. WhileHolds (roll-While z)) is (while_step y)
 
     -- the statements of a function
     pub goes_body : (x : Block) → Goes extra (body_does around length_of x)
-    goes_body = s.ind-Block (λ x. Goes extra (does around length_of x)) (λ x. Goes extra (body_does around length_of x)) (λ x. Goes extra (do_meant x)) (λ x. Goes extra (for_meant x)) (λ x. Goes extra (if_meant x)) (λ x. Goes extra (while_meant x)) (λ x y is. subst (λ (z : Stmt-F Stmt Block Do For If While). Goes extra (does around length_of (roll-Stmt z))) is (stmt_step y)) (λ x y is. subst (λ (z : Block-F Stmt Block Do For If While). Goes extra (body_does around length_of (roll-Block z))) is (block_step y)) (λ x y is. subst (λ (z : Do-F Stmt Block Do For If While). Goes extra (do_meant (roll-Do z))) is (do_step y)) (λ x y is. subst (λ (z : For-F Stmt Block Do For If While). Goes extra (for_meant (roll-For z))) is (for_step y)) (λ x y is. subst (λ (z : If-F Stmt Block Do For If While). Goes extra (if_meant (roll-If z))) is (if_step y)) (λ x y is. subst (λ (z : While-F Stmt Block Do For If While). Goes extra (while_meant (roll-While z))) is (while_step y))
+    goes_body = s.ind-Block StmtHolds BlockHolds DoHolds ForHolds IfHolds WhileHolds every-Stmt every-Block every-Do every-For every-If every-While
