@@ -5,5 +5,8 @@ pub mod Statements
 pub mod Calls
 pub mod Demanded
 pub mod Laws
+pub mod Replies
+pub mod Names
+pub mod Runs
 mod Writing
 mod Rows
