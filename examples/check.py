@@ -78,7 +78,8 @@ def cells(manual):
 
 
 def fits(written, text):
-    return written == text if text.endswith(b"\n") else written.startswith(text)
+    """Whether a text is what is wanted: a row of bytes without a line end at its end is a beginning."""
+    return written.startswith(text) if text and not text.endswith(b"\n") else written == text
 
 
 def main():
