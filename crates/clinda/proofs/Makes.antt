@@ -30,7 +30,7 @@ steps_once (Some m) (Some n) p q e =
     ap (λ k. Some k) (decimal_injective m n (omega (arith, p)) (omega (arith, q)) (ap (λ (word : List ℕ). drop 6 word) same))
 
 options_once : (o p : Options) → o.steps ≡ p.steps → o ≡ p
-options_once o p e = cc
+options_once o p e = ap (λ (s : Option ℕ). record { steps = s }) e
 
 seq_once : (m n : ℕ) (o p : Options) → m ≡ n → o ≡ p → Seq m o ≡ Seq n p
 seq_once m n o p same alike = subst (λ k. Seq m o ≡ Seq k p) same (ap (λ (q : Options). Seq m q) alike)
