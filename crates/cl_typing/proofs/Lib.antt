@@ -1,3 +1,6 @@
+pub mod Calling
 pub mod Found
+pub mod Inductions
 pub mod Leading
 pub mod Operating
+pub mod Places
