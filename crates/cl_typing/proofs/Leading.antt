@@ -35,6 +35,12 @@ module _ (R : PlainRequest → Type 0) where
   leads_more P Q (Asks q rest) h k = (h.0, λ reply fit. leads_more P Q (rest reply) (h.1 reply fit) k)
   leads_more P Q (Stops t) h k = tt
 
+  pub leads_both : {A : Type 0} (P Q : A → Variables → Type 0) (d : Steps (A × State Variables)) → Leads R P d → Leads R Q d → Leads R (λ a v. P a v × Q a v) d
+  leads_both P Q (Gives r) h k = (h, k)
+  leads_both P Q (Prints bytes rest) h k = leads_both P Q rest h k
+  leads_both P Q (Asks q rest) h k = (h.0, λ reply fit. leads_both P Q (rest reply) (h.1 reply fit) (k.1 reply fit))
+  leads_both P Q (Stops t) h k = tt
+
   module _ (before : Variables → Type 0) where
     pub right_bind : {A B : Type 0} (middle : A → Variables → Type 0) (after : B → Variables → Type 0) (d : Does A) (f : A → Does B) → Right R before middle d → ((a : A) → Right R (middle a) after (f a)) → Right R before after (d >>= f)
     unfolding ◌>>=◌
@@ -122,6 +128,10 @@ module _ (R : PlainRequest → Type 0) where
 
     pub keeps_more : {A : Type 0} (P Q : A → Type 0) (d : Does A) → Keeps R kept P d → ((a : A) → P a → Q a) → Keeps R kept Q d
     keeps_more P Q d h k = right_more kept (λ a v. kept v × P a) (λ a v. kept v × Q a) d h (λ a v w. (w.0, k a w.1))
+
+    pub keeps_both : {A : Type 0} (P Q : A → Type 0) (d : Does A) → Keeps R kept P d → Keeps R kept Q d → Keeps R kept (λ a. P a × Q a) d
+    keeps_both P Q d h k s w =
+        leads_more (λ a v. (kept v × P a) × (kept v × Q a)) (λ a v. kept v × (P a × Q a)) (d s) (leads_both (λ a v. kept v × P a) (λ a v. kept v × Q a) (d s) (h s w) (k s w)) (λ a v p. (p.0.0, (p.0.1, p.1.1)))
 
     pub keeps_pure : {A : Type 0} (Q : A → Type 0) (a : A) → Q a → Keeps R kept Q (pure a)
     keeps_pure Q a q = right_pure kept (λ a v. kept v × Q a) a (λ v w. (w, q))

@@ -1,4 +1,5 @@
 pub mod Calling
+pub mod Expressions
 pub mod Found
 pub mod Inductions
 pub mod Leading

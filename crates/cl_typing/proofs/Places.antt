@@ -116,6 +116,10 @@ module _ (R : PlainRequest → Type 0) (globals : List Declaration) (locals : Li
   value_keeps name access i found at a = keeps_bind R Kept (FitsAs a.what) (λ v. IsOf a.type v) (variable name) _ (variable_keeps name a.what a.stands)
       (λ v f. let r = accessed access i a.what a.type v a.typed f in keeps_pure R Kept (λ v. IsOf a.type v) (element at v) (element_is a.type at v r.0 r.1))
 
+  pub value_any : (name : Name) (at : ℕ) → Keeps R Kept (λ v. Unit {0}) (value_at name at)
+  unfolding value_at
+  value_any name at = keeps_bind R Kept (λ v. Unit {0}) (λ v. Unit {0}) (variable name) _ (variable_any name) (λ v u. keeps_pure R Kept (λ v. Unit {0}) (element at v) tt)
+
   pub number_keeps : (name : Name) (n : Number) → standing name globals locals ≡ Some (declareds.Constant n) → Keeps R Kept (IsNumber n) (value_at name 0)
   unfolding value_at
   number_keeps name n is = keeps_bind R Kept (FitsAs (declareds.Constant n)) (IsNumber n) (variable name) _ (variable_keeps name (declareds.Constant n) is)
