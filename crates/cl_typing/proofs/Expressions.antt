@@ -313,3 +313,269 @@ module _ (R : PlainRequest → Type 0) (around : Surroundings) (functions : List
       both_of (exprs.Not x) c (equations.part_of_not around x)
       (value_by (exprs.Not x) c (Some types.Int) None (value around y >>= (λ v. pure (truth (is_zero v)))) (ap (λ (j : Judged). j.type) (rules.of_not x c.known)) (rules.constant_not x c.known) (equations.of_not around x)
       (keeps_bind R (Kept c) (ValueIs y c.known) Q (value around y) _ (g c own (subst Allowed (finding.of_not x c.known) allowed)).0 (λ v p. keeps_pure R (Kept c) Q (truth (is_zero v)) (truth_is (is_zero v), tt))))
+
+  -- ---- places and arguments, by what holds of their parts
+
+  index_keeps : (name : Name) (index : Option ((x : Expr) × GoodExpr x)) (c : Here) → Clean (index_notes (option_map (λ e. judged e c.known) (option_map (λ y. y.0) index))) → Allowed (maybe_forms (option_map (λ y. y.0) index) c.known) →
+      Keeps R (Kept c) (λ k. option_map (λ (y : (x : Expr) × GoodExpr x). y.0) index ≡ None → k ≡ 0) (place name (option_map (value around) (option_map (λ y. y.0) index)))
+  index_keeps name None c clean allowed = keeps_more R (Kept c) (λ k. k ≡ 0) (λ k. None ≡ None → k ≡ 0) (place name None) (place_alone R globals (c.outer ++ c.inner ∷ []) name) (λ k is e. is)
+  index_keeps name (Some y) c clean allowed = keeps_more R (Kept c) (λ k. Unit {0}) (λ k. Some y.0 ≡ None → k ≡ 0) (place name (Some (value around y.0)))
+      (place_indexed R globals (c.outer ++ c.inner ∷ []) (ValueIs y.0 c.known) name (value around y.0) (y.1 c clean allowed).0) (λ k u e. absurd cc)
+
+  place_good : (p : Place) (index : Option ((x : Expr) × GoodExpr x)) → option_map (λ y. y.0) index ≡ (out-Place p).index → GoodPlace p
+  place_good p index h c access clean allowed =
+      let name = (out-Place p).name in
+      let judgings = option_map (λ e. judged e c.known) (out-Place p).index in
+      let what = look_up name.bytes c.known in
+      let noted = found_all (place_faults access (is_indexed judgings) what) name.span.start in
+      let clear : Clean (noted ++ index_notes judgings) = subst (λ (j : Judged). Clean j.notes) (rules.place_is p access c.known) clean in
+      let P : Option Expr → Type 0 = λ i. Clean (index_notes (option_map (λ e. judged e c.known) i)) → Allowed (maybe_forms i c.known) → Keeps R (Kept c) (λ k. i ≡ None → k ≡ 0) (place name.bytes (option_map (value around) i)) in
+      subst (Keeps R (Kept c) (λ k. (out-Place p).index ≡ None → k ≡ 0)) (sym (equations.place_at around p))
+      (subst P h (index_keeps name.bytes index c) (clean_split noted (index_notes judgings) clear).1 (subst Allowed (finding.place_is p c.known) allowed))
+
+  exprs_keep : (ys : List ((x : Expr) × GoodExpr x)) (c : Here) → Clean (notes_of (all_judged c.known (map judged (map (λ y. y.0) ys)))) → Allowed (each_found expr_forms (map (λ y. y.0) ys) c.known) →
+      AllByRecursion (λ x. Keeps R (Kept c) (λ v. Unit {0}) (value around x)) (map (λ y. y.0) ys)
+  exprs_keep [] c clean allowed = tt
+  exprs_keep (y ∷ ys) c clean allowed =
+      let rest = map (λ (z : (x : Expr) × GoodExpr x). z.0) ys in
+      let two = clean_split (judged y.0 c.known).notes (notes_of (all_judged c.known (map judged rest))) clean in
+      let forms = all_split _ (expr_forms y.0 c.known) (each_found expr_forms rest c.known) allowed in
+      (keeps_more R (Kept c) (ValueIs y.0 c.known) (λ v. Unit {0}) (value around y.0) (y.1 c two.0 forms.0).0 (λ v p. tt), exprs_keep ys c two.1 forms.1)
+
+  call_good : (x : Call) (ys : List ((e : Expr) × GoodExpr e)) → map (λ y. y.0) ys ≡ (out-Call x).arguments → GoodCall x
+  call_good x ys h c clean allowed =
+      let P : List Expr → Type 0 = λ es. Clean (notes_of (all_judged c.known (map judged es))) → Allowed (each_found expr_forms es c.known) → AllByRecursion (λ e. Keeps R (Kept c) (λ v. Unit {0}) (value around e)) es in
+      let es = (out-Call x).arguments in
+      let Q : Expr → Value → Type 0 = λ e v. Unit {0} in
+      keeps_more R (Kept c) (Paired Q es) (λ vs. length vs ≡ length es) (each (map (value around) es))
+      (keeps_each R (Kept c) Q (value around) es (subst P h (exprs_keep ys c) clean (subst Allowed (finding.call_is x c.known) allowed))) (λ vs p. paired_length Q es vs p)
+
+  -- ---- fields
+
+  text_suits : (x : Text) (known : Known) → ValueSuits around.text functions (fields.Text x) (field_form (fields.Text x) known) (values.Text (around.text x.bytes))
+  text_suits x known = subst (λ y. ValueSuits around.text functions (fields.Text x) y (values.Text (around.text x.bytes))) (sym (finding.text_form x known))
+      (ap (λ f. values.Text (around.text (bytes_rule f))) (sym (outs-Text x)))
+
+  text_good : (x : Text) → GoodField (fields.Text x)
+  text_good x c verb clean allowed =
+      let v = values.Text (around.text x.bytes) in
+      let P = AimSuits c verb (fields.Text x) (field_form (fields.Text x) c.known) in
+      let Q = Suiting c.known (fields.Text x) in
+      (subst (Keeps R (Kept c) P) (sym (equations.aim_of_text around x)) (keeps_pure R (Kept c) P (Holds v) (text_suits x c.known)),
+      λ is. subst (Keeps R (Kept c) Q) (sym (equations.part_of_text around x)) (keeps_pure R (Kept c) Q (Ready v) (text_suits x c.known)))
+
+  plain_good : (x : Expr) → GoodExpr x → GoodField (fields.Plain x)
+  plain_good x g c verb clean allowed =
+      let r = g c (subst Clean (rules.of_plain x verb c.known) clean) (subst Allowed (finding.of_plain x c.known) allowed) in
+      let P = AimSuits c verb (fields.Plain x) (field_form (fields.Plain x) c.known) in
+      (subst (Keeps R (Kept c) P) (sym (equations.aim_of_plain around x)) (keeps_bind R (Kept c) (ValueIs x c.known) P (value around x) _ r.0 (λ v p. keeps_pure R (Kept c) P (Holds v) (field_suits x c.known v p))), λ is. r.1)
+
+  no_formal : formal_faults verbs.Eval ≡ [] → ⊥
+  no_formal h = cc
+
+  formal_keeps : (c : Here) (K : ℕ → Type 0) (name : Name) (at : Does ℕ) (i : Bool) (found : Option TypeName) (a : Accesses globals (c.outer ++ c.inner ∷ []) name accesses.Write i found) (P : Aim → Type 0) → Keeps R (Kept c) K at →
+      ((k : ℕ) (v : Variable) → FitsAs a.what v → P (Fills v.of name k)) → Keeps R (Kept c) P (formal name at)
+  unfolding formal
+  formal_keeps c K name at i found a P h f = keeps_bind R (Kept c) K P at _ h (λ k p.
+      keeps_bind R (Kept c) (FitsAs a.what) P (variable name) _ (variable_keeps R globals (c.outer ++ c.inner ∷ []) name a.what a.stands) (λ v fits. keeps_pure R (Kept c) P (Fills v.of name k) (f k v fits)))
+
+  formal_good : (x : Formal) → GoodPlace (out-Formal x).target → GoodField (fields.Formal x)
+  formal_good x g c verb clean allowed =
+      let target = (out-Formal x).target in
+      let name = (out-Place target).name.bytes in
+      let own = found_all (formal_faults verb) (out-Formal x).span.start in
+      let j = judged_place target accesses.Write c.known in
+      let locals = c.outer ++ c.inner ∷ [] in
+      let clear : Clean (own ++ j.notes) = subst Clean (rules.of_formal x verb c.known ∙ rules.formal_is x verb c.known) clean in
+      let two = clean_split own j.notes clear in
+      let none = none_found (formal_faults verb) (out-Formal x).span.start two.0 in
+      let a = place_accesses target c accesses.Write two.1 in
+      let P = AimSuits c verb (fields.Formal x) (field_form (fields.Formal x) c.known) in
+      let at = g c accesses.Write two.1 (subst Allowed (finding.of_formal x c.known) allowed) in
+      let read : (v : Variable) → FitsAs a.1.what v → a.1.type ≡ v.of = λ v f. sym (accessed accesses.Write a.0 a.1.what a.1.type v a.1.typed f).0 in
+      let aim : (k : ℕ) (v : Variable) → a.1.type ≡ v.of → P (Fills v.of name k) =
+      λ k v is. subst (λ t. P (Fills t name k)) is
+      (none, finding.formal_form x c.known ∙ ap (λ t. findings.Formal t) a.1.found_is, (a.0, subst (λ t. Accesses globals locals name accesses.Write a.0 t) a.1.found_is a.1)) in
+      (subst (Keeps R (Kept c) P) (sym (equations.aim_of_formal around x)) (formal_keeps c (λ k. (out-Place target).index ≡ None → k ≡ 0) name (place_meant around target).at a.0 j.type a.1 P at (λ k v f. aim k v (read v f))), λ is. absurd (no_formal (subst (λ v. formal_faults v ≡ []) is none)))
+
+  -- ---- what is received
+
+  abbrev CanFill : Here → Aim → Type 0
+  CanFill c (Holds v) = Unit {0}
+  CanFill c (Fills of name at) = (i : Bool) × Accesses globals (c.outer ++ c.inner ∷ []) name accesses.Write i (Some of)
+
+  can_fill : (c : Here) (verb : Verb) (xs : List Field) (aims : List Aim) → Paired (λ x a. AimSuits c verb x (field_form x c.known) a) xs aims → AllByRecursion (CanFill c) aims
+  can_fill c verb [] [] h = tt
+  can_fill c verb [] (a ∷ aims) h = absurd h
+  can_fill c verb (x ∷ xs) [] h = absurd h
+  can_fill c verb (x ∷ xs) (Holds v ∷ aims) h = (tt, can_fill c verb xs aims h.1)
+  can_fill c verb (x ∷ xs) (Fills of name at ∷ aims) h = (h.0.2, can_fill c verb xs aims h.1)
+
+  fill_keeps : (c : Here) (aims : List Aim) (vs : List Value) → AllByRecursion (CanFill c) aims → Keeps R (Kept c) (λ u. Unit {0}) (fill aims vs)
+  unfolding fill
+  fill_keeps c [] vs h = keeps_pure R (Kept c) (λ u. Unit {0}) tt tt
+  fill_keeps c (Holds v ∷ aims) [] h = keeps_pure R (Kept c) (λ u. Unit {0}) tt tt
+  fill_keeps c (Fills of name at ∷ aims) [] h = keeps_pure R (Kept c) (λ u. Unit {0}) tt tt
+  fill_keeps c (Holds v ∷ aims) (w ∷ ws) h = fill_keeps c aims ws h.1
+  fill_keeps c (Fills of name at ∷ aims) (w ∷ ws) h = keeps_then R (Kept c) (λ u. Unit {0}) (λ u. Unit {0}) (store name at w) (fill aims ws) (store_keeps R globals (c.outer ++ c.inner ∷ []) name h.0.0 (Some of) at w h.0.1) (fill_keeps c aims ws h.1)
+
+  received_keeps : (c : Here) (aims : List Aim) (reply : PlainReply) → AllByRecursion (CanFill c) aims → Keeps R (Kept c) (IsOf types.Int) (received aims reply)
+  unfolding received
+  received_keeps c aims (Got t) h = keeps_then R (Kept c) (λ u. Unit {0}) (IsOf types.Int) (fill aims t) (pure (truth true)) (fill_keeps c aims t h) (keeps_pure R (Kept c) (IsOf types.Int) (truth true) (truth_is true))
+  received_keeps c aims Done h = keeps_pure R (Kept c) (IsOf types.Int) (truth true) (truth_is true)
+  received_keeps c aims Miss h = keeps_pure R (Kept c) (IsOf types.Int) (truth false) (truth_is false)
+
+  -- ---- what is asked for
+
+  slot_suits : (x : Field) (y : Finding) (of : TypeName) → y ≡ findings.Formal (Some of) → SlotSuits around.text functions x y (slots.Formal (field_type of))
+  slot_suits x y of is = subst (λ z. SlotSuits around.text functions x z (slots.Formal (field_type of))) (sym is) refl
+
+  slots_suit : (c : Here) (verb : Verb) (xs : List Field) (aims : List Aim) → Paired (λ x a. AimSuits c verb x (field_form x c.known) a) xs aims → Beside (SlotSuits around.text functions) xs (own_forms xs c.known) (map slot aims)
+  slots_suit c verb [] [] h = tt
+  slots_suit c verb [] (a ∷ aims) h = absurd h
+  slots_suit c verb (x ∷ xs) [] h = absurd h
+  slots_suit c verb (x ∷ xs) (Holds v ∷ aims) h = (h.0, slots_suit c verb xs aims h.1)
+  slots_suit c verb (x ∷ xs) (Fills of name at ∷ aims) h = (slot_suits x (field_form x c.known) of h.0.1, slots_suit c verb xs aims h.1)
+
+  no_out_formal : formal_faults verbs.Out ≡ [] → ⊥
+  no_out_formal h = cc
+
+  values_suit : (c : Here) (xs : List Field) (aims : List Aim) → Paired (λ x a. AimSuits c verbs.Out x (field_form x c.known) a) xs aims → Beside (ValueSuits around.text functions) xs (own_forms xs c.known) (values_of aims)
+  values_suit c [] [] h = tt
+  values_suit c [] (a ∷ aims) h = absurd h
+  values_suit c (x ∷ xs) [] h = absurd h
+  values_suit c (x ∷ xs) (Holds v ∷ aims) h = (h.0, values_suit c xs aims h.1)
+  values_suit c (x ∷ xs) (Fills of name at ∷ aims) h = absurd (no_out_formal h.0.0)
+
+  ask_suits : (c : Here) (verb : Verb) (xs : List Field) (aims : List Aim) → (verb ≡ verbs.Eval → ⊥) → Paired (λ x a. AimSuits c verb x (field_form x c.known) a) xs aims → AskSuits around.text functions verb xs (own_forms xs c.known) (asked verb aims)
+  ask_suits c verbs.Out xs aims other h = values_suit c xs aims h
+  ask_suits c verbs.In xs aims other h = slots_suit c verbs.In xs aims h
+  ask_suits c verbs.Rd xs aims other h = slots_suit c verbs.Rd xs aims h
+  ask_suits c verbs.Inp xs aims other h = slots_suit c verbs.Inp xs aims h
+  ask_suits c verbs.Rdp xs aims other h = slots_suit c verbs.Rdp xs aims h
+  ask_suits c verbs.Eval xs aims other h = absurd (other refl)
+
+  -- ---- operations
+
+  fields_keep : (ys : List ((x : Field) × GoodField x)) (c : Here) (verb : Verb) → Clean (rule.joined (all_noted verb c.known (map field_notes (map (λ y. y.0) ys)))) → Allowed (each_found inner_forms (map (λ y. y.0) ys) c.known) →
+      AllByRecursion (FieldLaw c verb) (map (λ y. y.0) ys)
+  fields_keep [] c verb clean allowed = tt
+  fields_keep (y ∷ ys) c verb clean allowed =
+      let rest = map (λ (z : (x : Field) × GoodField x). z.0) ys in
+      let two = clean_split (field_notes y.0 verb c.known) (rule.joined (all_noted verb c.known (map field_notes rest))) clean in
+      let forms = all_split _ (inner_forms y.0 c.known) (each_found inner_forms rest c.known) allowed in
+      (y.1 c verb two.0 forms.0, fields_keep ys c verb two.1 forms.1)
+
+  aims_keep : (c : Here) (verb : Verb) (xs : List Field) → AllByRecursion (FieldLaw c verb) xs → AllByRecursion (λ x. Keeps R (Kept c) (AimSuits c verb x (field_form x c.known)) (field_aim around x)) xs
+  aims_keep c verb [] h = tt
+  aims_keep c verb (x ∷ xs) h = (h.0.0, aims_keep c verb xs h.1)
+
+  parts_keep : (c : Here) (verb : Verb) (xs : List Field) → verb ≡ verbs.Eval → AllByRecursion (FieldLaw c verb) xs → AllByRecursion (λ x. Keeps R (Kept c) (Suiting c.known x) (field_part around x)) xs
+  parts_keep c verb [] is h = tt
+  parts_keep c verb (x ∷ xs) is h = (h.0.1 is, parts_keep c verb xs is h.1)
+
+  requested_keeps : (c : Here) (site : ℕ) (verb : Verb) (xs : List Field) → AllByRecursion (FieldLaw c verb) xs →
+      ((aims : List Aim) → Paired (λ x a. AimSuits c verb x (field_form x c.known) a) xs aims → R (record { site = site; ask = asked verb aims })) → Keeps R (Kept c) (IsOf types.Int) (requested site verb (map (field_aim around) xs))
+  unfolding requested
+  requested_keeps c site verb xs h r =
+      let P : Field → Aim → Type 0 = λ x a. AimSuits c verb x (field_form x c.known) a in
+      keeps_bind R (Kept c) (Paired P xs) (IsOf types.Int) (each (map (field_aim around) xs)) _ (keeps_each R (Kept c) P (field_aim around) xs (aims_keep c verb xs h)) (λ aims p.
+      keeps_bind R (Kept c) (λ q. Unit {0}) (IsOf types.Int) (ask (record { site = site; ask = asked verb aims })) _ (keeps_ask R (Kept c) (λ q. Unit {0}) (record { site = site; ask = asked verb aims }) (r aims p) (λ reply fit. tt))
+      (λ reply u. received_keeps c aims reply (can_fill c verb xs aims p)))
+
+  evaluated_keeps : (c : Here) (depth site : ℕ) (verb : Verb) (xs : List Field) → verb ≡ verbs.Eval → AllByRecursion (FieldLaw c verb) xs →
+      ((live : List PlainPart) → Paired (λ x part. Suiting c.known x part) xs live → R (record { site = site; ask = Eval live })) → Keeps R (Kept c) (IsOf types.Int) (evaluated depth site (map (field_part around) xs))
+  unfolding evaluated
+  evaluated_keeps c depth site verb xs is h r =
+      let P : Field → PlainPart → Type 0 = λ x part. Suiting c.known x part in
+      keeps_bind R (Kept c) (Paired P xs) (IsOf types.Int) (each (map (field_part around) xs)) _ (keeps_each R (Kept c) P (field_part around) xs (parts_keep c verb xs is h)) (λ live p.
+      keeps_if R (Kept c) (IsOf types.Int) (nat_lt depth 64) (ask (record { site = site; ask = Eval live }) >> pure (truth true)) (trap EvalDepth)
+      (λ few. keeps_then R (Kept c) (λ q. Unit {0}) (IsOf types.Int) (ask (record { site = site; ask = Eval live })) (pure (truth true))
+      (keeps_ask R (Kept c) (λ q. Unit {0}) (record { site = site; ask = Eval live }) (r live p) (λ reply fit. tt)) (keeps_pure R (Kept c) (IsOf types.Int) (truth true) (truth_is true)))
+      (λ many. keeps_trap R (Kept c) (IsOf types.Int) EvalDepth))
+
+  eval_or_not : (verb : Verb) (A : Type 0) → (verb ≡ verbs.Eval → A) → ((verb ≡ verbs.Eval → ⊥) → A) → A
+  eval_or_not verbs.Eval A f g = f refl
+  eval_or_not verbs.Out A f g = g (λ e. cc)
+  eval_or_not verbs.In A f g = g (λ e. cc)
+  eval_or_not verbs.Rd A f g = g (λ e. cc)
+  eval_or_not verbs.Inp A f g = g (λ e. cc)
+  eval_or_not verbs.Rdp A f g = g (λ e. cc)
+
+  operation_good : (o : Operation) (ys : List ((x : Field) × GoodField x)) → map (λ y. y.0) ys ≡ (out-Operation o).fields → GoodOperation o
+  operation_good o ys h c clean allowed =
+      let verb = (out-Operation o).verb in
+      let xs = (out-Operation o).fields in
+      let at = (out-Operation o).span.start in
+      let parts = all_noted verb c.known (map field_notes xs) in
+      let noted = found_all (width_faults (length parts)) at in
+      let clear : Clean (noted ++ rule.joined parts) = subst Clean (rules.operation_is o c.known) clean in
+      let may : Allowed ((o, own_forms xs c.known) ∷ each_found inner_forms xs c.known) = subst Allowed (finding.operation_is o c.known) allowed in
+      let P : List Field → Type 0 = λ fs. Clean (rule.joined (all_noted verb c.known (map field_notes fs))) → Allowed (each_found inner_forms fs c.known) → AllByRecursion (FieldLaw c verb) fs in
+      let all : AllByRecursion (FieldLaw c verb) xs = subst P h (fields_keep ys c verb) (clean_split noted (rule.joined parts) clear).1 may.1 in
+      let Q = Keeps R (Kept c) (IsOf types.Int) in
+      eval_or_not verb (Q (operation around o))
+      (λ is. subst Q (sym (equations.operation_spawns around o is)) (evaluated_keeps c around.depth (around.site at) verb xs is all
+      (λ live p. may.0 (Eval live) (subst (λ v. AskSuits around.text functions v xs (own_forms xs c.known) (Eval live)) (sym is) (beside_found (PartSuits around.text functions) c.known xs live p)))))
+      (λ other. subst Q (sym (equations.operation_requests around o other)) (requested_keeps c (around.site at) verb xs all (λ aims p. may.0 (asked verb aims) (ask_suits c verb xs aims other p))))
+
+  -- ---- chains
+
+  truth_keeps : (c : Here) (P : Value → Type 0) (d : Does Value) → Keeps R (Kept c) P d → Keeps R (Kept c) (IsOf types.Int) (truth_of d)
+  unfolding truth_of
+  truth_keeps c P d h = keeps_bind R (Kept c) P (IsOf types.Int) d _ h (λ v p. keeps_pure R (Kept c) (IsOf types.Int) (truth (not (is_zero v))) (truth_is (not (is_zero v))))
+
+  both_keep : (c : Here) (operator : Operator) (s t : Option TypeName) (d : Does Value) (a : Value) → LooksAtBoth operator → IsOfFound s a → Keeps R (Kept c) (IsOfFound t) d →
+      Keeps R (Kept c) (IsOfFound (judging.operated operator s t)) (d >>= (λ b. checked (operated operator a b)))
+  both_keep c operator s t d a l is h = keeps_bind R (Kept c) (IsOfFound t) (IsOfFound (judging.operated operator s t)) d _ h
+      (λ b p. keeps_checked R (Kept c) (IsOfFound (judging.operated operator s t)) (operated operator a b) (λ v e. operated_is operator s t a b v l e is p))
+
+  joined_keeps : (c : Here) (operator : Operator) (s t : Option TypeName) (d : Does Value) (a : Value) → IsOfFound s a → Keeps R (Kept c) (IsOfFound t) d → Keeps R (Kept c) (IsOfFound (judging.operated operator s t)) (joined operator d a)
+  unfolding joined
+  joined_keeps c operators.And s t d a is h = keeps_if R (Kept c) (IsOf types.Int) (is_zero a) (pure (truth false)) (truth_of d) (λ e. keeps_pure R (Kept c) (IsOf types.Int) (truth false) (truth_is false)) (λ e. truth_keeps c (IsOfFound t) d h)
+  joined_keeps c operators.Or s t d a is h = keeps_if R (Kept c) (IsOf types.Int) (is_zero a) (truth_of d) (pure (truth true)) (λ e. truth_keeps c (IsOfFound t) d h) (λ e. keeps_pure R (Kept c) (IsOf types.Int) (truth true) (truth_is true))
+  joined_keeps c operators.Equal s t d a is h = both_keep c operators.Equal s t d a tt is h
+  joined_keeps c operators.NotEqual s t d a is h = both_keep c operators.NotEqual s t d a tt is h
+  joined_keeps c operators.Less s t d a is h = both_keep c operators.Less s t d a tt is h
+  joined_keeps c operators.LessEqual s t d a is h = both_keep c operators.LessEqual s t d a tt is h
+  joined_keeps c operators.Greater s t d a is h = both_keep c operators.Greater s t d a tt is h
+  joined_keeps c operators.GreaterEqual s t d a is h = both_keep c operators.GreaterEqual s t d a tt is h
+  joined_keeps c operators.Add s t d a is h = both_keep c operators.Add s t d a tt is h
+  joined_keeps c operators.Subtract s t d a is h = both_keep c operators.Subtract s t d a tt is h
+  joined_keeps c operators.Multiply s t d a is h = both_keep c operators.Multiply s t d a tt is h
+  joined_keeps c operators.Divide s t d a is h = both_keep c operators.Divide s t d a tt is h
+  joined_keeps c operators.Remainder s t d a is h = both_keep c operators.Remainder s t d a tt is h
+
+  links_keep : (ys : List ((l : Link) × GoodExpr (out-Link l).operand)) (c : Here) (a : Judged) (v : Value) → IsOfFound a.type v → Clean (chained c.known a (map judged_operand (map (λ y. y.0) ys))).notes → Allowed (each_found link_forms (map (λ y. y.0) ys) c.known) →
+      Keeps R (Kept c) (IsOfFound (chained c.known a (map judged_operand (map (λ y. y.0) ys))).type) (through (map (link_value around) (map (λ y. y.0) ys)) v)
+  unfolding through
+  links_keep [] c a v is clean allowed = keeps_pure R (Kept c) (IsOfFound a.type) v is
+  links_keep (y ∷ ys) c a v is clean allowed =
+      let x = (out-Link y.0).operand in
+      let operator = (out-Link y.0).operator in
+      let b = judged x c.known in
+      let next = judged_link a operator b in
+      let ls = map (λ (z : (l : Link) × GoodExpr (out-Link l).operand). z.0) ys in
+      let rest = map judged_operand ls in
+      let whole : chained c.known a (judged_operand y.0 ∷ rest) ≡ chained c.known next rest = ap (λ (k : LinkJudges). chained c.known (judged_link a k.operator (k.operand c.known)) rest) (rules.link_is y.0) in
+      let clear : Clean (chained c.known next rest).notes = subst (λ (j : Judged). Clean j.notes) whole clean in
+      let forms = all_split _ (link_forms y.0 c.known) (each_found link_forms ls c.known) allowed in
+      let own = (clean_split a.notes b.notes (chain_clean c.known next rest clear)).1 in
+      let operand = keeps_more R (Kept c) (ValueIs x c.known) (IsOfFound b.type) (value around x) (y.1 c own (subst Allowed (finding.link_is y.0 c.known) forms.0)).0 (λ w p. p.0) in
+      subst (λ (j : Judged). Keeps R (Kept c) (IsOfFound j.type) (through (map (link_value around) (y.0 ∷ ls)) v)) (sym whole)
+      (keeps_bind R (Kept c) (IsOfFound next.type) (IsOfFound (chained c.known next rest).type) (link_value around y.0 v) (through (map (link_value around) ls)) (joined_keeps c operator a.type b.type (value around x) v is operand)
+      (λ w p. links_keep ys c next w p clear forms.1))
+
+  chain_good : (h : Chain) → GoodExpr (out-Chain h).first → (ys : List ((l : Link) × GoodExpr (out-Link l).operand)) → map (λ y. y.0) ys ≡ (out-Chain h).others → GoodChain h
+  chain_good h g ys e c clean allowed =
+      let first = (out-Chain h).first in
+      let a = judged first c.known in
+      let ls = (out-Chain h).others in
+      let is = rules.chain_is h c.known in
+      let clear : Clean (chained c.known a (map judged_operand ls)).notes = subst (λ (j : Judged). Clean j.notes) is clean in
+      let forms = all_split _ (expr_forms first c.known) (each_found link_forms ls c.known) (subst Allowed (finding.chain_is h c.known) allowed) in
+      let P : List Link → Type 0 = λ ls. (v : Value) → IsOfFound a.type v → Clean (chained c.known a (map judged_operand ls)).notes → Allowed (each_found link_forms ls c.known) →
+      Keeps R (Kept c) (IsOfFound (chained c.known a (map judged_operand ls)).type) (through (map (link_value around) ls) v) in
+      subst (λ (j : Judged). Keeps R (Kept c) (IsOfFound j.type) (chain_value around h)) (sym is)
+      (keeps_bind R (Kept c) (ValueIs first c.known) (IsOfFound (chained c.known a (map judged_operand ls)).type) (value around first) (through (map (link_value around) ls)) (g c (chain_clean c.known a (map judged_operand ls) clear) forms.0).0
+      (λ v p. subst P e (λ v is clean allowed. links_keep ys c a v is clean allowed) v p.0 clear forms.1))
