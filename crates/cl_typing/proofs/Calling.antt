@@ -1,6 +1,7 @@
 -- Calls: what they give is of the type of the function, and a call that is a field of a live tuple has arguments of its parameters' types.
 use Rattle.std.proofs.Common.{◌≡◌, ◌∙◌, ap, sym, subst, refl, ℕ, suc, Bool, true, false, List, [], ◌∷◌, ◌++◌, length, Option, Some, None}
 use Rattle.std.proofs.lemmas.Bool.{eqb-true}
+use Rattle.std.specs.Cmp.Lexicographic.{bytes_decides}
 use Rattle.std.specs.Prelude.{◌==◌, if◌then◌else◌, slice_get}
 use Rattle.cl_value.specs.declared.value.Value.{Value}
 use Rattle.cl_value.specs.declared.value.FieldType.{FieldType}
@@ -30,7 +31,7 @@ use Rattle.cl_types.specs.Declarations.{Declaration, Known, look_up}
 use Rattle.cl_types.specs.Expressions.{called_type, value_faults, count_faults, call_faults}
 use Rattle.cl_types.specs.Items.{parameter_types, function_type}
 use Rattle.cl_typing.specs.Values.{IsOf, IsOfFound}
-use Rattle.cl_typing.specs.Standing.{function_in, HasFunction, Sees}
+use Rattle.cl_typing.specs.Standing.{Fits, function_in, HasFunction, Sees}
 use Rattle.cl_typing.specs.Requests.{HasFieldType, AreArguments, CallSuits}
 use Rattle.cl_typing.specs.Steps.{Keeps}
 use Rattle.cl_typing.proofs.Operating.{converted_is}
@@ -55,6 +56,18 @@ number_gets (g ∷ gs) name f h = by (same_name name g.name.bytes) h (λ e. numb
     by true e more = e
     by false e more = more e
 
+-- it has this name
+name_is : (functions : List Function) (name : Name) (f : Function) → function_in functions name ≡ Some f → name ≡ f.name.bytes
+name_is [] name f h = absurd cc
+name_is (g ∷ gs) name f h = by (same_name name g.name.bytes) refl h (λ e. name_is gs name f e)
+  where
+    by : (b : Bool) → same_name name g.name.bytes ≡ b → (if b then Some g else function_in gs name) ≡ Some f → (function_in gs name ≡ Some f → name ≡ f.name.bytes) → name ≡ f.name.bytes
+    by true is e more = let same : g ≡ f = cc in (bytes_decides name g.name.bytes).0 is ∙ ap (λ (k : Function). k.name.bytes) same
+    by false is e more = more e
+
+pub named_own : (functions : List Function) (name : Name) (f : Function) → function_in functions name ≡ Some f → function_in functions f.name.bytes ≡ Some f
+named_own functions name f h = subst (λ n. function_in functions n ≡ Some f) (name_is functions name f h) h
+
 -- ---- results
 
 of_result : (r : Option TypeName) (n : Named) (ps : List Parameter) (b : Block) (s : Span) (v : Value) → IsOf (result_type (record { result = r; name = n; parameters = ps; body = b; span = s })) v → IsOfFound r v
@@ -72,6 +85,14 @@ field_result (Some t) n ps b s = refl
 -- what a call gives is of the type of the function of this name
 abbrev pub GivesResult : List Function → Name → Value → Type 0
 GivesResult functions name v = (f : Function) → function_in functions name ≡ Some f → IsOf (result_type f) v
+
+-- as many values as the function of this name has parameters
+abbrev pub Takes : List Function → Name → List Value → Type 0
+Takes functions name vs = (f : Function) → function_in functions name ≡ Some f → length f.parameters ≡ length vs
+
+-- calls of functions keep variables at their types, and give values of theirs
+abbrev pub CallsRight : (PlainRequest → Type 0) → List Function → List Declaration → (Name → List Value → Does Value) → Type 0
+CallsRight R functions globals call = (name : Name) (vs : List Value) (locals : List (List Declaration)) → Takes functions name vs → Keeps R (Fits globals locals) (GivesResult functions name) (call name vs)
 
 -- ---- a call without faults
 
@@ -119,6 +140,12 @@ may_call functions globals outer inner known sees name purpose given h = by (loo
     by (Some (declareds.Constant n)) is f = absurd cc
     by (Some (declareds.Function t)) is f = of_type t (sees.calls name t is) (behind_none (value_faults purpose t.result) (count_faults (length t.parameters) given) f)
 
+pub callable_takes : (functions : List Function) (name : Name) (type : Option TypeName) (vs : List Value) → Callable functions name type (length vs) → Takes functions name vs
+callable_takes functions name type vs c f is = let same : c.function ≡ f = some_same c.function f (sym c.found ∙ is) in sym (ap (λ (g : Function). length g.parameters) same) ∙ c.count
+  where
+    some_same : (g f : Function) → Some g ≡ Some f → g ≡ f
+    some_same g f e = cc
+
 -- what it gives is of the type that is judged
 pub call_gives : (functions : List Function) (name : Name) (type : Option TypeName) (given : ℕ) (v : Value) → Callable functions name type given → GivesResult functions name v → IsOfFound type v
 call_gives functions name type given v c g = subst (λ t. IsOfFound t v) (sym c.result) (result_is c.function v (g c.function c.found))
@@ -138,7 +165,7 @@ module _ (R : PlainRequest → Type 0) (kept : Variables → Type 0) where
 
   -- a call with its number
   abbrev pub LiveSuits : List Function → Option TypeName → PlainPart → Type 0
-  LiveSuits functions type (Call number vs gives) = (f : Function) × (slice_get functions number ≡ Some f) × AreArguments f.parameters vs × (gives ≡ field_type (result_type f)) × HasFieldType type gives
+  LiveSuits functions type (Call number vs gives) = (f : Function) × (slice_get functions number ≡ Some f) × (function_in functions f.name.bytes ≡ Some f) × AreArguments f.parameters vs × (gives ≡ field_type (result_type f)) × HasFieldType type gives
   LiveSuits functions type _ = ⊥
 
   pub live_keeps : (functions : List Function) (name : Name) (type : Option TypeName) (vs : List Value) → Callable functions name type (length vs) → Keeps R kept (LiveSuits functions type) (live_call functions name vs)
@@ -149,4 +176,4 @@ module _ (R : PlainRequest → Type 0) (kept : Variables → Type 0) where
       subst Q (sym (named_is _ functions name f _ c.found))
       (keeps_bind R kept (AreArguments f.parameters) (LiveSuits functions type) (arguments f.parameters vs) _ (arguments_keep f.parameters vs c.count) (λ ws are.
       keeps_pure R kept (LiveSuits functions type) (Call (number_of name functions) ws (field_type (result_type f)))
-      (f, number_gets functions name f c.found, are, refl, subst (λ t. HasFieldType t (field_type (result_type f))) (sym c.result) (field_result f.result f.name f.parameters f.body f.span))))
+      (f, number_gets functions name f c.found, named_own functions name f c.found, are, refl, subst (λ t. HasFieldType t (field_type (result_type f))) (sym c.result) (field_result f.result f.name f.parameters f.body f.span))))

@@ -72,7 +72,8 @@ use Rattle.cl_typing.proofs.Leading.{Paired, keeps_bind, keeps_then, keeps_more,
 use Rattle.cl_typing.proofs.Operating.{truth_is, literal_is, literal_number, operated_is, LooksAtBoth, negated_is}
 use Rattle.cl_typing.proofs.Operating as operating
 use Rattle.cl_typing.proofs.Places.{Accesses, may_access, accessed, variable_keeps, value_keeps, value_any, number_keeps, store_keeps, place_alone, place_indexed}
-use Rattle.cl_typing.proofs.Calling.{GivesResult, Callable, may_call, call_gives, LiveSuits, live_keeps}
+use Rattle.cl_typing.proofs.Inductions as inductions
+use Rattle.cl_typing.proofs.Calling.{GivesResult, CallsRight, Callable, may_call, callable_takes, call_gives, LiveSuits, live_keeps}
 
 -- a place of the text: the scopes that stand there, what is known there, and that they agree
 pub record Scene (functions : List Function) (globals : List Declaration) : Type 0 where
@@ -240,7 +241,7 @@ module _ (R : PlainRequest → Type 0) (around : Surroundings) (functions : List
 
   -- ---- calls may be done, and live calls are those of the text
 
-  module _ (calls_right : (name : Name) (vs : List Value) (locals : List (List Declaration)) → Keeps R (Fits globals locals) (GivesResult functions name) (around.call name vs)) (live_is : (name : Name) (vs : List Value) → around.live_call name vs ≡ live_call functions name vs) where
+  module _ (calls_right : CallsRight R functions globals around.call) (live_is : (name : Name) (vs : List Value) → around.live_call name vs ≡ live_call functions name vs) where
     pub call_keeps : (x : Call) → GoodCall x → (c : Here) (purpose : Purpose) → Clean (judged_call x purpose c.known).notes → Allowed (call_forms x c.known) → Keeps R (Kept c) (IsOfFound (judged_call x purpose c.known).type) (call around x)
     call_keeps x g c purpose clean allowed =
         let name = (out-Call x).name.bytes in
@@ -249,7 +250,7 @@ module _ (R : PlainRequest → Type 0) (around : Surroundings) (functions : List
         let t = (judged_call x purpose c.known).type in
         subst (Keeps R (Kept c) (IsOfFound t)) (sym (equations.call_is around x))
         (keeps_bind R (Kept c) (λ vs. length vs ≡ length xs) (IsOfFound t) (each (map (value around) xs)) (around.call name) (g c may.1 allowed)
-        (λ vs same. keeps_more R (Kept c) (GivesResult functions name) (IsOfFound t) (around.call name vs) (calls_right name vs (c.outer ++ c.inner ∷ [])) (λ v gives. call_gives functions name t (length xs) v may.0 gives)))
+        (λ vs same. keeps_more R (Kept c) (GivesResult functions name) (IsOfFound t) (around.call name vs) (calls_right name vs (c.outer ++ c.inner ∷ []) (callable_takes functions name t vs (subst (Callable functions name t) (sym same) may.0))) (λ v gives. call_gives functions name t (length xs) v may.0 gives)))
 
     part_keeps : (x : Call) → GoodCall x → (c : Here) → Clean (judged_call x purposes.Value c.known).notes → Allowed (call_forms x c.known) → Keeps R (Kept c) (Suiting c.known (fields.Plain (exprs.Call x))) (field_part around (fields.Plain (exprs.Call x)))
     part_keeps x g c clean allowed =
@@ -579,3 +580,18 @@ module _ (R : PlainRequest → Type 0) (around : Surroundings) (functions : List
       subst (λ (j : Judged). Keeps R (Kept c) (IsOfFound j.type) (chain_value around h)) (sym is)
       (keeps_bind R (Kept c) (ValueIs first c.known) (IsOfFound (chained c.known a (map judged_operand ls)).type) (value around first) (through (map (link_value around) ls)) (g c (chain_clean c.known a (map judged_operand ls) clear) forms.0).0
       (λ v p. subst P e (λ v is clean allowed. links_keep ys c a v is clean allowed) v p.0 clear forms.1))
+
+  -- ---- every expression
+
+  module _ (calls_right : CallsRight R functions globals around.call) (live_is : (name : Name) (vs : List Value) → around.live_call name vs ≡ live_call functions name vs) where
+    pub every_expr : (x : Expr) → GoodExpr x
+    every_expr = inductions.every_expr GoodExpr GoodField GoodCall GoodChain GoodOperation GoodPlace literal_good named_good (called_good calls_right live_is) operating_good chained_good negate_good not_good text_good formal_good plain_good place_good call_good operation_good chain_good
+
+    pub every_place : (x : Place) → GoodPlace x
+    every_place = inductions.every_place GoodExpr GoodField GoodCall GoodChain GoodOperation GoodPlace literal_good named_good (called_good calls_right live_is) operating_good chained_good negate_good not_good text_good formal_good plain_good place_good call_good operation_good chain_good
+
+    pub every_call : (x : Call) (c : Here) (purpose : Purpose) → Clean (judged_call x purpose c.known).notes → Allowed (call_forms x c.known) → Keeps R (Kept c) (IsOfFound (judged_call x purpose c.known).type) (call around x)
+    every_call x = call_keeps calls_right live_is x (inductions.every_call GoodExpr GoodField GoodCall GoodChain GoodOperation GoodPlace literal_good named_good (called_good calls_right live_is) operating_good chained_good negate_good not_good text_good formal_good plain_good place_good call_good operation_good chain_good x)
+
+    pub every_operation : (x : Operation) → GoodOperation x
+    every_operation = inductions.every_operation GoodExpr GoodField GoodCall GoodChain GoodOperation GoodPlace literal_good named_good (called_good calls_right live_is) operating_good chained_good negate_good not_good text_good formal_good plain_good place_good call_good operation_good chain_good

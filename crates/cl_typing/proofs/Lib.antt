@@ -1,7 +1,9 @@
 pub mod Calling
+pub mod Declaring
 pub mod Expressions
 pub mod Found
 pub mod Inductions
 pub mod Leading
 pub mod Operating
 pub mod Places
+pub mod Settled

@@ -28,6 +28,7 @@ use Rattle.cl_meaning.specs.Calls.{result_type}
 use Rattle.cl_types.specs.Findings.{Finding, Forms}
 use Rattle.cl_types.specs.Findings as findings
 use Rattle.cl_typing.specs.Values.{IsOf, IsOfFound, IsNumber}
+use Rattle.cl_typing.specs.Standing.{function_in}
 
 -- the bytes of a string; no other field has any
 abbrev pub bytes_rule : Field-F Expr Field Calling Chain Formal Link Operation Place Prefix → List ℕ
@@ -69,9 +70,9 @@ module _ (text : List ℕ → ℕ) (functions : List Function) where
   SlotSuits field (findings.Formal t) (slots.Formal type) = HasFieldType t type
   SlotSuits field _ (slots.Formal type) = ⊥
 
-  -- a call that the new process does: of a function of the text, with arguments of its parameters' types
+  -- a call that the new process does: of a function of the text, the first of its name, with arguments of its parameters' types
   abbrev pub CallSuits : ℕ → List Value → FieldType → Option TypeName → Type 0
-  CallSuits number vs gives t = (f : Function) × (slice_get functions number ≡ Some f) × AreArguments f.parameters vs × (gives ≡ field_type (result_type f)) × HasFieldType t gives
+  CallSuits number vs gives t = (f : Function) × (slice_get functions number ≡ Some f) × (function_in functions f.name.bytes ≡ Some f) × AreArguments f.parameters vs × (gives ≡ field_type (result_type f)) × HasFieldType t gives
 
   -- a field of a live tuple
   abbrev pub PartSuits : Field → Finding → PlainPart → Type 0

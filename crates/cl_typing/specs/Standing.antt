@@ -70,8 +70,11 @@ function_in (f ∷ fs) name = if same_name name f.name.bytes then Some f else fu
 abbrev pub HasFunction : List Function → Name → FunctionType → Type 0
 HasFunction functions name t = (f : Function) × (function_in functions name ≡ Some f) × (function_type f ≡ t)
 
--- what is known of a name stands for it: a variable in the scopes, a function in the text; and the innermost scope has no name that isn't declared in it
+-- what is known of a name stands for it: a variable in the scopes, a function in the text
 pub record Sees (functions : List Function) (globals : List Declaration) (outer : List (List Declaration)) (inner : List Declaration) (known : Known) : Type 0 where
   pub stands : (name : Name) (what : Declared) → look_up name known ≡ Some what → IsVariable what → standing name globals (outer ++ inner ∷ []) ≡ Some what
   pub calls : (name : Name) (t : FunctionType) → look_up name known ≡ Some (declareds.Function t) → HasFunction functions name t
-  pub fresh : (name : Name) → is_declared_here name known ≡ false → first_in name inner None ≡ None
+
+-- the innermost scope has no name but those that are declared in it
+abbrev pub Fresh : List Declaration → Known → Type 0
+Fresh inner known = (name : Name) → is_declared_here name known ≡ false → first_in name inner None ≡ None
