@@ -176,7 +176,7 @@ module _ (R : PlainRequest → Type 0) (around : Surroundings) (functions : List
       (keeps_pure R (Kept c) (λ v. IsOfFound (Some (literal_type x.value)) v × IsFoundNumber (Some (plain_number x.value)) v) (literal x.value) (literal_is x.value, literal_number x.value)))
 
   -- what is known of the name of a place
-  place_accesses : (x : Place) (c : Here) (access : Access) → Clean (judged_place x access c.known).notes →
+  pub place_accesses : (x : Place) (c : Here) (access : Access) → Clean (judged_place x access c.known).notes →
       (i : Bool) × Accesses globals (c.outer ++ c.inner ∷ []) (out-Place x).name.bytes access i (judged_place x access c.known).type
   place_accesses x c access clean =
       let name = (out-Place x).name in

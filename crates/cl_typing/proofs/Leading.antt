@@ -148,6 +148,12 @@ module _ (R : PlainRequest → Type 0) where
     pub keeps_tick : (Q : Unit {0} → Type 0) → Q tt → Keeps R kept Q tick
     keeps_tick Q q = right_tick kept (λ a v. kept v × Q a) (λ v w. (w, q))
 
+    pub keeps_print : (Q : Unit {0} → Type 0) (bytes : List ℕ) → Q tt → Keeps R kept Q (print bytes)
+    keeps_print Q bytes q = right_print kept (λ a v. kept v × Q a) bytes (λ v w. (w, q))
+
+    pub keeps_ticks_left : (Q : ℕ → Type 0) → ((n : ℕ) → Q n) → Keeps R kept Q ticks_left
+    keeps_ticks_left Q q = right_ticks_left kept (λ a v. kept v × Q a) (λ n v w. (w, q n))
+
     pub keeps_if : {A : Type 0} (Q : A → Type 0) (b : Bool) (d e : Does A) → (b ≡ true → Keeps R kept Q d) → (b ≡ false → Keeps R kept Q e) → Keeps R kept Q (if b then d else e)
     keeps_if Q b d e h k = right_if kept (λ a v. kept v × Q a) b d e h k
 

@@ -6,4 +6,5 @@ pub mod Inductions
 pub mod Leading
 pub mod Operating
 pub mod Places
+pub mod Recursions
 pub mod Settled
