@@ -8,3 +8,4 @@ pub mod Operating
 pub mod Places
 pub mod Recursions
 pub mod Settled
+pub mod Statements
