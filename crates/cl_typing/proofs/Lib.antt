@@ -2,6 +2,7 @@ pub mod Calling
 pub mod Declaring
 pub mod Expressions
 pub mod Found
+pub mod Functions
 pub mod Inductions
 pub mod Leading
 pub mod Operating

@@ -2,4 +2,5 @@ pub mod Bodies
 pub mod Requests
 pub mod Standing
 pub mod Steps
+pub mod Texts
 pub mod Values
