@@ -122,7 +122,7 @@ module _ (functions : List Function) (globals : List Declaration) (outer : List 
           by true same e = subst (λ n. HasFunction functions n u) (sym ((bytes_decides other name).0 same)) (subst (HasFunction functions name) (same_type t u (sym (ap (λ x. Some x) is) ∙ e)) has)
           by false same e = sees.calls other u e
 
-  declared_now : (other : Name) → is_declared_here other Now ≡ false → (same_name other name ≡ false) × (is_declared_here other known ≡ false)
+  pub declared_now : (other : Name) → is_declared_here other Now ≡ false → (same_name other name ≡ false) × (is_declared_here other known ≡ false)
   declared_now other h = by (same_name other name) h
     where
       by : (b : Bool) → is_some (if b then Some (record { name = name; what = what }) else declaration_in known.here other) ≡ false → (b ≡ false) × (is_declared_here other known ≡ false)

@@ -164,7 +164,7 @@ changed_fits name what globals locals all change keeps is h = by (innermost name
 
 -- ---- declarations, and scopes that are entered and left
 
-scope_append : (ds : List Declaration) (scope : Scope) (d : Declaration) (v : Variable) → FitsScope ds scope → v.name ≡ d.name → FitsAs d.what v → FitsScope (ds ++ d ∷ []) (scope ++ v ∷ [])
+pub scope_append : (ds : List Declaration) (scope : Scope) (d : Declaration) (v : Variable) → FitsScope ds scope → v.name ≡ d.name → FitsAs d.what v → FitsScope (ds ++ d ∷ []) (scope ++ v ∷ [])
 scope_append [] [] d v h n f = (n, f, tt)
 scope_append [] (w ∷ ws) d v h n f = absurd h
 scope_append (e ∷ es) [] d v h n f = absurd h

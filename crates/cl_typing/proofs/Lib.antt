@@ -6,7 +6,9 @@ pub mod Functions
 pub mod Inductions
 pub mod Leading
 pub mod Operating
+pub mod Outside
 pub mod Places
 pub mod Recursions
 pub mod Settled
 pub mod Statements
+pub mod Texts

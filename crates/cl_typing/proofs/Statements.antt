@@ -112,7 +112,7 @@ same_known x context known = subst P (roll-out-Stmt x) (by (out-Stmt x))
     by (Stmt-F.Continue y) = subst P (sym (stmts.rolls-Continue y)) (ap (λ (w : Walked). w.known) (sentences.of_continue y context known) ∙ sym (stating.behind_continue y known))
     by (Stmt-F.Return y) = subst P (sym (stmts.rolls-Return y)) (ap (λ (w : Walked). w.known) (sentences.of_return y context known) ∙ sym (stating.behind_return y known))
 
-all_zero : (t : TypeName) (n : ℕ) → AllByRecursion (IsOf t) (replicate n (zero_of t))
+pub all_zero : (t : TypeName) (n : ℕ) → AllByRecursion (IsOf t) (replicate n (zero_of t))
 all_zero t zero = tt
 all_zero t (suc n) = (zero_is t, all_zero t n)
 
