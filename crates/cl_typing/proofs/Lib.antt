@@ -8,6 +8,7 @@ pub mod Leading
 pub mod Operating
 pub mod Outside
 pub mod Places
+pub mod Process
 pub mod Recursions
 pub mod Settled
 pub mod Statements

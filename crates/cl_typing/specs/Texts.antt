@@ -12,6 +12,7 @@ use Rattle.cl_ast.specs.declared.statement.Parameter.{Parameter}
 use Rattle.cl_ast.specs.declared.statement.Function.{Function}
 use Rattle.cl_ast.specs.declared.statement.Item.{Item}
 use Rattle.cl_ast.specs.declared.statement.Item.TheVariants as items
+use Rattle.cl_model.specs.Demand.{Outcome, Wants, Finishes, Traps, Misfit}
 use Rattle.cl_listing.specs.Listing.{in_items, site_at, texts_of, text_number}
 use Rattle.cl_meaning.specs.Operators.{field_type}
 use Rattle.cl_meaning.specs.Outer.{functions_of}
@@ -19,9 +20,10 @@ use Rattle.cl_meaning.specs.Calls.{result_type}
 use Rattle.cl_types.specs.declared.declared.Declared.TheVariants as declareds
 use Rattle.cl_types.specs.Declarations.{Declaration}
 use Rattle.cl_types.specs.Statements.{form_declared}
-use Rattle.cl_types.specs.Items.{define_number}
+use Rattle.cl_types.specs.Items.{define_number, main_name}
 use Rattle.cl_types.specs.Findings.{Forms}
 use Rattle.cl_types.specs.Found.{findings}
+use Rattle.cl_typing.specs.Values.{IsOf}
 use Rattle.cl_typing.specs.Standing.{function_in}
 use Rattle.cl_typing.specs.Requests.{AreArguments, Suits}
 
@@ -64,10 +66,10 @@ Become [] [] = Unit {0}
 Become (p ∷ ps) (v ∷ vs) = Becomes p v × Become ps vs
 Become _ _ = ⊥
 
--- what a process gives: `real_main` a value, and a live tuple each of its fields
-abbrev pub EndFits : PlainStart → List Value → Type 0
-EndFits Main vs = (v : Value) × (vs ≡ v ∷ [])
-EndFits (Lives site parts depth) vs = Become parts vs
+-- what a process gives: a value of the type of `real_main`, and of a live tuple each field
+abbrev pub EndFits : List Item → PlainStart → List Value → Type 0
+EndFits xs Main vs = (f : Function) × (function_in (functions_of xs) main_name ≡ Some f) × (v : Value) × (vs ≡ v ∷ []) × IsOf (result_type f) v
+EndFits xs (Lives site parts depth) vs = Become parts vs
 
 -- ---- what it asks for
 
@@ -79,3 +81,12 @@ AsksAt text site functions (x ∷ found) q = ((q.site ≡ site (out-Operation x.
 -- a request of a text: at one of its operations, with what was found of its fields
 abbrev pub IsRequestOf : List Item → PlainRequest → Type 0
 IsRequestOf xs q = AsksAt (λ bytes. text_number bytes (texts_of xs)) (λ place. site_at place (in_items xs)) (functions_of xs) (findings xs) q
+
+-- ---- what it demands
+
+-- a request is one of the text, and what a process finishes with is right for how it began
+abbrev pub OutcomeFits : List Item → PlainStart → Outcome → Type 0
+OutcomeFits xs start (Wants q) = IsRequestOf xs q
+OutcomeFits xs start (Finishes vs) = EndFits xs start vs
+OutcomeFits xs start (Traps t) = Unit {0}
+OutcomeFits xs start Misfit = Unit {0}
