@@ -7,6 +7,7 @@ use Rattle.cl_value.specs.declared.value.Value.{Value}
 use Rattle.cl_value.specs.declared.value.Value.TheVariants.{Int}
 use Rattle.cl_value.specs.Plain.{PlainRequest, PlainReply, PlainAsk, Out, In, Rd, Inp, Rdp, Eval, Land, PlainPart, Ready, Call, PlainStart, Main, Lives}
 use Rattle.cl_value.specs.Acts.{fits}
+use Rattle.cl_ast.specs.declared.tree.Expr.{Expr}
 use Rattle.cl_ast.specs.declared.tree.Verb.{Verb}
 use Rattle.cl_ast.specs.declared.tree.Verb.TheVariants as verbs
 use Rattle.cl_ast.specs.declared.tree.Field.{Field}
@@ -23,11 +24,14 @@ use Rattle.cl_meaning.specs.Operators.{field_type}
 use Rattle.cl_meaning.specs.Variables.{Variables}
 use Rattle.cl_meaning.specs.Operations.{Does}
 use Rattle.cl_meaning.specs.Outer.{functions_of, outer}
-use Rattle.cl_meaning.specs.Calls.{result_type, function_named, calls, run}
+use Rattle.cl_meaning.specs.Expressions.{value}
+use Rattle.cl_meaning.specs.Calls.{result_type, function_named, surroundings, calls, run}
 use Rattle.cl_meaning.specs.Process.{fixed, begun, cells_of_globals, main, called_at, part_does, parts_do, live, process, demands}
 use Rattle.cl_types.specs.declared.fault.TypeKind.TheVariants as kinds
 use Rattle.cl_types.specs.Notes.{found}
 use Rattle.cl_types.specs.Declarations.{Declaration}
+use Rattle.cl_types.specs.Expressions.{judged, constant_of}
+use Rattle.cl_types.specs.Fields.{expr_forms}
 use Rattle.cl_types.specs.Items.{main_name, is_empty, is_main, has_main, items_walked, known_first}
 use Rattle.cl_types.specs.Unit.{main_notes, faults}
 use Rattle.cl_types.specs.Findings.{Finding, Forms}
@@ -35,13 +39,14 @@ use Rattle.cl_types.specs.Findings as findings_of
 use Rattle.cl_types.specs.Found.{findings}
 use Rattle.cl_types.proofs.Clean.{Clean, clean_split, clean_unit}
 use Rattle.cl_typing.specs.Bodies.{are_settled}
-use Rattle.cl_typing.specs.Values.{IsOf}
+use Rattle.cl_typing.specs.Values.{IsOf, IsOfFound, IsFoundNumber}
 use Rattle.cl_typing.specs.Standing.{FitsScope, Fits, function_in}
 use Rattle.cl_typing.specs.Requests.{AreArguments, Beside, PartSuits, AskSuits, Suits, Allows}
 use Rattle.cl_typing.specs.Texts.{outside, parameters_declared, PartFits, StartFits, Becomes, Become, EndFits, AsksAt, IsRequestOf, OutcomeFits}
 use Rattle.cl_typing.specs.Steps.{Leads, Right, Keeps}
 use Rattle.cl_typing.proofs.Leading.{leads_more, right_claim, keeps_bind, keeps_then, keeps_more, keeps_pure}
 use Rattle.cl_typing.proofs.Calling.{GivesResult, Takes, CallsRight, named_is}
+use Rattle.cl_typing.proofs.Expressions.{Scene, every_expr}
 use Rattle.cl_typing.proofs.Functions.{Fine, all_in, run_keeps, calls_keep}
 use Rattle.cl_typing.proofs.Outside.{outer_fits}
 use Rattle.cl_typing.proofs.Texts.{first_seen, items_fine}
@@ -165,6 +170,24 @@ module _ (R : PlainRequest → Type 0) (xs : List Item) where
       Leads R (λ vs all. Fits (outside xs) [] all × EndFits xs start vs) (process xs start (begun xs ticks))
   process_leads none settled allowed start h ticks =
       let fine = all_fine none settled allowed in process_keeps fine (begins_main none fine) start h (begun xs ticks) (begins ticks)
+
+-- ---- expressions
+
+nothing_asked : (text : List ℕ → ℕ) (functions : List Function) (site : ℕ → ℕ) (fs : Forms) → Allows text functions site (λ q. Unit {0}) fs
+nothing_asked text functions site [] = tt
+nothing_asked text functions site (x ∷ fs) = (λ ask suits. tt, nothing_asked text functions site fs)
+
+-- In a text without faults, where no fault is noted in an expression, each value that it gives is of the type that is judged of it, and the number
+-- of the constant that it is, if it is one; and variables stay at the types by which they are known. It may stand at any depth of processes and of
+-- calls.
+pub value_typed : (xs : List Item) → faults xs ≡ [] → are_settled xs ≡ true → (depth more : ℕ) (c : Scene (functions_of xs) (outside xs)) (x : Expr) → Clean (judged x c.known).notes →
+    Keeps (λ q. Unit {0}) (Fits (outside xs) (c.outer ++ c.inner ∷ [])) (λ v. IsOfFound (judged x c.known).type v × IsFoundNumber (constant_of x c.known) v) (value (surroundings (fixed xs depth) (calls (fixed xs depth) more)) x)
+value_typed xs none settled depth more c x clean =
+    let R : PlainRequest → Type 0 = λ q. Unit {0} in
+    let text : List ℕ → ℕ = λ bytes. text_number bytes (texts_of xs) in
+    let site : ℕ → ℕ = λ place. site_at place (in_items xs) in
+    let fine = all_fine R xs none settled (nothing_asked text (functions_of xs) site (findings xs)) in
+    (every_expr R (surroundings (fixed xs depth) (calls (fixed xs depth) more)) (functions_of xs) (outside xs) (calls_here R xs fine depth more) (λ name vs. refl) x c clean (nothing_asked text (functions_of xs) site (expr_forms x c.known))).0
 
 -- ---- demands
 
