@@ -1,5 +1,6 @@
 pub mod Calling
 pub mod Declaring
+pub mod Derived
 pub mod Expressions
 pub mod Found
 pub mod Functions

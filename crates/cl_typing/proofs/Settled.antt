@@ -12,7 +12,12 @@ use Rattle.cl_ast.specs.declared.statement.If.{If, out-If}
 use Rattle.cl_ast.specs.declared.statement.While.{While, out-While}
 use Rattle.cl_ast.specs.declared.statement.Do.{Do, out-Do}
 use Rattle.cl_ast.specs.declared.statement.For.{For, out-For}
+use Rattle.cl_ast.specs.declared.tree.Call.{Call}
+use Rattle.cl_ast.specs.declared.tree.Operation.{Operation}
 use Rattle.cl_ast.specs.declared.statement.Variables.{Variables}
+use Rattle.cl_ast.specs.declared.statement.Assign.{Assign}
+use Rattle.cl_ast.specs.declared.statement.Print.{Print}
+use Rattle.cl_ast.specs.declared.statement.Return.{Return}
 use Rattle.cl_types.proofs.Opens.{gd, gf, gi, gw, stmt_rolls, block_opens, do_opens, for_opens, if_opens, while_opens}
 use Rattle.cl_typing.specs.Bodies.{Standing, alone, alone_if_any, all_settled, no_declaration, stmt_stands, block_stands, do_stands, for_stands, if_stands, while_stands, stands, is_settled}
 
@@ -27,6 +32,38 @@ of_block x = ap stands (sym (stmts.rolls-Block x)) ∙ stmt_rolls Standing Bool 
 pub of_variables : (x : Variables) → stands (stmts.Variables x) ≡ record { declares = true; is_settled = true }
 unfolding stands is_settled
 of_variables x = ap stands (sym (stmts.rolls-Variables x)) ∙ stmt_rolls Standing Bool Bool Bool Bool Bool stmt_stands block_stands do_stands for_stands if_stands while_stands (Stmt-F.Variables x)
+
+pub of_empty : (x : Span) → stands (stmts.Empty x) ≡ no_declaration true
+unfolding stands is_settled
+of_empty x = ap stands (sym (stmts.rolls-Empty x)) ∙ stmt_rolls Standing Bool Bool Bool Bool Bool stmt_stands block_stands do_stands for_stands if_stands while_stands (Stmt-F.Empty x)
+
+pub of_assign : (x : Assign) → stands (stmts.Assign x) ≡ no_declaration true
+unfolding stands is_settled
+of_assign x = ap stands (sym (stmts.rolls-Assign x)) ∙ stmt_rolls Standing Bool Bool Bool Bool Bool stmt_stands block_stands do_stands for_stands if_stands while_stands (Stmt-F.Assign x)
+
+pub of_call : (x : Call) → stands (stmts.Call x) ≡ no_declaration true
+unfolding stands is_settled
+of_call x = ap stands (sym (stmts.rolls-Call x)) ∙ stmt_rolls Standing Bool Bool Bool Bool Bool stmt_stands block_stands do_stands for_stands if_stands while_stands (Stmt-F.Call x)
+
+pub of_operation : (x : Operation) → stands (stmts.Operation x) ≡ no_declaration true
+unfolding stands is_settled
+of_operation x = ap stands (sym (stmts.rolls-Operation x)) ∙ stmt_rolls Standing Bool Bool Bool Bool Bool stmt_stands block_stands do_stands for_stands if_stands while_stands (Stmt-F.Operation x)
+
+pub of_print : (x : Print) → stands (stmts.Print x) ≡ no_declaration true
+unfolding stands is_settled
+of_print x = ap stands (sym (stmts.rolls-Print x)) ∙ stmt_rolls Standing Bool Bool Bool Bool Bool stmt_stands block_stands do_stands for_stands if_stands while_stands (Stmt-F.Print x)
+
+pub of_break : (x : Span) → stands (stmts.Break x) ≡ no_declaration true
+unfolding stands is_settled
+of_break x = ap stands (sym (stmts.rolls-Break x)) ∙ stmt_rolls Standing Bool Bool Bool Bool Bool stmt_stands block_stands do_stands for_stands if_stands while_stands (Stmt-F.Break x)
+
+pub of_continue : (x : Span) → stands (stmts.Continue x) ≡ no_declaration true
+unfolding stands is_settled
+of_continue x = ap stands (sym (stmts.rolls-Continue x)) ∙ stmt_rolls Standing Bool Bool Bool Bool Bool stmt_stands block_stands do_stands for_stands if_stands while_stands (Stmt-F.Continue x)
+
+pub of_return : (x : Return) → stands (stmts.Return x) ≡ no_declaration true
+unfolding stands is_settled
+of_return x = ap stands (sym (stmts.rolls-Return x)) ∙ stmt_rolls Standing Bool Bool Bool Bool Bool stmt_stands block_stands do_stands for_stands if_stands while_stands (Stmt-F.Return x)
 
 pub of_while : (x : While) → stands (stmts.While x) ≡ no_declaration (alone (stands (out-While x).body))
 unfolding stands is_settled
