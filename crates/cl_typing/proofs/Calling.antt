@@ -4,17 +4,14 @@ use Rattle.std.proofs.lemmas.Bool.{eqb-true}
 use Rattle.std.specs.Cmp.Lexicographic.{bytes_decides}
 use Rattle.std.specs.Prelude.{◌==◌, if◌then◌else◌, slice_get}
 use Rattle.cl_value.specs.declared.value.Value.{Value}
-use Rattle.cl_value.specs.declared.value.FieldType.{FieldType}
 use Rattle.cl_value.specs.Plain.{PlainRequest, PlainPart, Call}
 use Rattle.cl_ast.specs.declared.span.Span.{Span}
 use Rattle.cl_ast.specs.declared.tree.Name.{Name as Named}
 use Rattle.cl_ast.specs.declared.tree.TypeName.{TypeName}
-use Rattle.cl_ast.specs.declared.tree.TypeName.TheVariants as types
-use Rattle.cl_ast.specs.declared.tree.Field.{Field}
 use Rattle.cl_ast.specs.declared.statement.Block.{Block}
 use Rattle.cl_ast.specs.declared.statement.Function.{Function}
 use Rattle.cl_ast.specs.declared.statement.Parameter.{Parameter}
-use Rattle.cl_model.specs.Doing.{◌>>=◌, pure, checked}
+use Rattle.cl_model.specs.Doing.{checked}
 use Rattle.cl_listing.specs.Names.{Name, same_name}
 use Rattle.cl_meaning.specs.Operators.{converted, field_type}
 use Rattle.cl_meaning.specs.Variables.{Variables}
@@ -29,10 +26,10 @@ use Rattle.cl_types.specs.declared.fault.TypeKind.{TypeKind}
 use Rattle.cl_types.specs.declared.fault.TypeKind.TheVariants as kinds
 use Rattle.cl_types.specs.Declarations.{Declaration, Known, look_up}
 use Rattle.cl_types.specs.Expressions.{called_type, value_faults, count_faults, call_faults}
-use Rattle.cl_types.specs.Items.{parameter_types, function_type}
+use Rattle.cl_types.specs.Items.{parameter_types}
 use Rattle.cl_typing.specs.Values.{IsOf, IsOfFound}
 use Rattle.cl_typing.specs.Standing.{Fits, function_in, HasFunction, Sees}
-use Rattle.cl_typing.specs.Requests.{HasFieldType, AreArguments, CallSuits}
+use Rattle.cl_typing.specs.Requests.{HasFieldType, AreArguments}
 use Rattle.cl_typing.specs.Steps.{Keeps}
 use Rattle.cl_typing.proofs.Operating.{converted_is}
 use Rattle.cl_typing.proofs.Leading.{keeps_bind, keeps_pure, keeps_checked}

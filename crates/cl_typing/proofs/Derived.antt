@@ -1,5 +1,5 @@
 -- A text that tokens derive is settled: the grammar lets declarations stand in blocks alone.
-use Rattle.std.proofs.Common.{◌≡◌, ◌∙◌, ap, sym, subst, refl, Bool, true, false, ◌&&◌, List, [], ◌∷◌, map, Option, Some, None, inl, inr}
+use Rattle.std.proofs.Common.{◌≡◌, ◌∙◌, ap, refl, Bool, true, ◌&&◌, List, [], ◌∷◌, map, Option, inl, inr}
 use Rattle.std.specs.Prelude.{◌⊎◌, option_map}
 use Rattle.std.specs.List.{AllByRecursion}
 use Rattle.cl_rules.specs.Syntax.{Rule, Token, Nothing, Both, Either, Many, Counted, Symbol, Derivation, leaf, empty, pair, first, second, none, more, part, node, tokens}
@@ -8,10 +8,6 @@ use Rattle.cl_ast.specs.declared.word.Word.TheVariants as words
 use Rattle.cl_ast.specs.Plain.{PlainToken, PlainKind}
 use Rattle.cl_ast.specs.Plain as kinds
 use Rattle.cl_ast.specs.declared.tree.Expr.{Expr}
-use Rattle.cl_ast.specs.declared.tree.Field.{Field}
-use Rattle.cl_ast.specs.declared.tree.Place.{Place}
-use Rattle.cl_ast.specs.declared.tree.Spanned.{Spanned}
-use Rattle.cl_ast.specs.declared.span.Span.{Span}
 use Rattle.cl_ast.specs.declared.statement.Stmt.{Stmt}
 use Rattle.cl_ast.specs.declared.statement.Stmt.TheVariants as stmts
 use Rattle.cl_ast.specs.declared.statement.Stmt.TheViews.{out-roll-Block, out-roll-Do, out-roll-For, out-roll-If, out-roll-While}
@@ -22,9 +18,6 @@ use Rattle.cl_ast.specs.declared.statement.For.{For, roll-For}
 use Rattle.cl_ast.specs.declared.statement.If.{If, roll-If}
 use Rattle.cl_ast.specs.declared.statement.While.{While, roll-While}
 use Rattle.cl_ast.specs.declared.statement.Variables.{Variables}
-use Rattle.cl_ast.specs.declared.statement.Assign.{Assign}
-use Rattle.cl_ast.specs.declared.statement.Print.{Print}
-use Rattle.cl_ast.specs.declared.statement.Return.{Return}
 use Rattle.cl_ast.specs.declared.statement.Item.{Item}
 use Rattle.cl_ast.specs.declared.statement.Item.TheVariants as items
 use Rattle.cl_ast.specs.Grammar.{Part, rules, unit, block, simple, plain, statement, item}

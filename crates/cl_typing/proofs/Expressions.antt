@@ -1,13 +1,12 @@
 -- Where no fault is noted in an expression, what it gives is of the type that is judged of it, and so is each field of each request.
 use Rattle.std.proofs.Common.{◌≡◌, ◌∙◌, ap, sym, subst, refl, ℕ, suc, Bool, true, false, not, List, [], ◌∷◌, ◌++◌, map, length, Option, Some, None}
-use Rattle.std.specs.Prelude.{option_map, nat_lt, if◌then◌else◌, Ok, Err}
+use Rattle.std.specs.Prelude.{option_map, nat_lt, Ok}
 use Rattle.std.specs.List.{AllByRecursion}
 use Rattle.cl_value.specs.declared.value.Value.{Value}
 use Rattle.cl_value.specs.declared.value.Value.TheVariants as values
 use Rattle.cl_value.specs.declared.process.Trap.TheVariants.{EvalDepth}
-use Rattle.cl_value.specs.declared.template.Slot.{Slot}
 use Rattle.cl_value.specs.declared.template.Slot.TheVariants as slots
-use Rattle.cl_value.specs.Plain.{PlainRequest, PlainPart, Ready, Call as Calls, PlainAsk, Out, In, Rd, Inp, Rdp, Eval, PlainReply, Done, Got, Miss}
+use Rattle.cl_value.specs.Plain.{PlainRequest, PlainPart, Ready, Call as Calls, Eval, PlainReply, Done, Got, Miss}
 use Rattle.cl_ast.specs.declared.tree.Literal.{Literal}
 use Rattle.cl_ast.specs.declared.tree.Text.{Text}
 use Rattle.cl_ast.specs.declared.tree.Name.{Name as Named}
@@ -38,7 +37,7 @@ use Rattle.cl_meaning.specs.Variables.{Variable, Variables}
 use Rattle.cl_meaning.specs.Operations.{Does, Aim, Holds, Fills, place, variable, value_at, store, formal, slot, values_of, fill, asked, received, requested, evaluated}
 use Rattle.cl_meaning.specs.Expressions.{Surroundings, truth_of, joined, value, place_meant, call, operation}
 use Rattle.cl_meaning.specs.Calls.{live_call}
-use Rattle.cl_meaning.specs.Parts.{field_aim, field_part, call_part, link_value, chain_value}
+use Rattle.cl_meaning.specs.Parts.{field_aim, field_part, link_value, chain_value}
 use Rattle.cl_meaning.proofs.Equations as equations
 use Rattle.cl_types.specs.declared.context.Access.{Access}
 use Rattle.cl_types.specs.declared.context.Access.TheVariants as accesses
@@ -47,9 +46,7 @@ use Rattle.cl_types.specs.declared.context.Purpose.TheVariants as purposes
 use Rattle.cl_types.specs.declared.declared.Declared.{Declared}
 use Rattle.cl_types.specs.declared.declared.Declared.TheVariants as declareds
 use Rattle.cl_types.specs.declared.declared.Number.{Number}
-use Rattle.cl_types.specs.declared.fault.TypeKind.{TypeKind}
-use Rattle.cl_types.specs.declared.fault.TypeKind.TheVariants as kinds
-use Rattle.cl_types.specs.Notes.{Note, found_all}
+use Rattle.cl_types.specs.Notes.{found_all}
 use Rattle.cl_types.specs.Types.{literal_type, negated_type}
 use Rattle.cl_types.specs.Types as judging
 use Rattle.cl_types.specs.Numbers.{plain_number}
@@ -64,9 +61,9 @@ use Rattle.cl_types.proofs.Rules as rules
 use Rattle.cl_types.proofs.Finding as finding
 use Rattle.cl_types.proofs.Judging.{all_length}
 use Rattle.cl_types.proofs.Clean.{Clean, clean_split, none_found}
-use Rattle.cl_typing.specs.Values.{IsOf, IsOfFound, IsNumber, IsFoundNumber}
-use Rattle.cl_typing.specs.Standing.{FitsAs, Fits, standing, Sees}
-use Rattle.cl_typing.specs.Requests.{bytes_rule, text_bytes, Beside, ValueSuits, SlotSuits, PartSuits, AskSuits, Suits, Allows}
+use Rattle.cl_typing.specs.Values.{IsOf, IsOfFound, IsFoundNumber}
+use Rattle.cl_typing.specs.Standing.{FitsAs, Fits, Sees}
+use Rattle.cl_typing.specs.Requests.{bytes_rule, Beside, ValueSuits, SlotSuits, PartSuits, AskSuits, Allows}
 use Rattle.cl_typing.specs.Steps.{Keeps}
 use Rattle.cl_typing.proofs.Leading.{Paired, keeps_bind, keeps_then, keeps_more, keeps_both, keeps_pure, keeps_trap, keeps_checked, keeps_ask, keeps_if, keeps_each}
 use Rattle.cl_typing.proofs.Operating.{truth_is, literal_is, literal_number, operated_is, LooksAtBoth, negated_is}
@@ -271,9 +268,11 @@ module _ (R : PlainRequest → Type 0) (around : Surroundings) (functions : List
     called_good x g c clean allowed =
         let own : Clean (judged_call x purposes.Value c.known).notes = subst (λ (j : Judged). Clean j.notes) (rules.of_call x c.known) clean in
         let inner = subst Allowed (finding.of_call x c.known) allowed in
-        let t = (judged_call x purposes.Value c.known).type in
-        (value_by (exprs.Call x) c t None (call around x) (ap (λ (j : Judged). j.type) (rules.of_call x c.known)) (rules.constant_call x c.known) (equations.of_call around x)
-        (keeps_more R (Kept c) (IsOfFound t) (λ v. IsOfFound t v × Unit {0}) (call around x) (call_keeps x g c purposes.Value own inner) (λ v p. (p, tt))), part_keeps x g c own inner)
+        let t = (judged_call x purposes.Value c.known).type in (
+          value_by (exprs.Call x) c t None (call around x) (ap (λ (j : Judged). j.type) (rules.of_call x c.known)) (rules.constant_call x c.known) (equations.of_call around x)
+              (keeps_more R (Kept c) (IsOfFound t) (λ v. IsOfFound t v × Unit {0}) (call around x) (call_keeps x g c purposes.Value own inner) (λ v p. (p, tt))),
+          part_keeps x g c own inner,
+        )
 
   operating_good : (x : Operation) → GoodOperation x → GoodExpr (exprs.Operation x)
   operating_good x g c clean allowed =
@@ -361,9 +360,10 @@ module _ (R : PlainRequest → Type 0) (around : Surroundings) (functions : List
   text_good x c verb clean allowed =
       let v = values.Text (around.text x.bytes) in
       let P = AimSuits c verb (fields.Text x) (field_form (fields.Text x) c.known) in
-      let Q = Suiting c.known (fields.Text x) in
-      (subst (Keeps R (Kept c) P) (sym (equations.aim_of_text around x)) (keeps_pure R (Kept c) P (Holds v) (text_suits x c.known)),
-      λ is. subst (Keeps R (Kept c) Q) (sym (equations.part_of_text around x)) (keeps_pure R (Kept c) Q (Ready v) (text_suits x c.known)))
+      let Q = Suiting c.known (fields.Text x) in (
+        subst (Keeps R (Kept c) P) (sym (equations.aim_of_text around x)) (keeps_pure R (Kept c) P (Holds v) (text_suits x c.known)),
+        λ is. subst (Keeps R (Kept c) Q) (sym (equations.part_of_text around x)) (keeps_pure R (Kept c) Q (Ready v) (text_suits x c.known)),
+      )
 
   plain_good : (x : Expr) → GoodExpr x → GoodField (fields.Plain x)
   plain_good x g c verb clean allowed =

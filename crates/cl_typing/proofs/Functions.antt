@@ -1,5 +1,5 @@
 -- Calls of functions without faults keep variables at their types, and give values of theirs.
-use Rattle.std.proofs.Common.{◌≡◌, ◌∙◌, ap, sym, subst, refl, ℕ, zero, suc, Bool, true, false, List, [], ◌∷◌, ◌++◌, length, Option, Some, None}
+use Rattle.std.proofs.Common.{◌≡◌, ◌∙◌, sym, subst, refl, ℕ, zero, suc, Bool, true, false, List, [], ◌∷◌, length, Option, Some, None}
 use Rattle.std.specs.Prelude.{if◌then◌else◌}
 use Rattle.std.specs.List.{AllByRecursion}
 use Rattle.cl_value.specs.declared.value.Value.{Value}
@@ -9,7 +9,7 @@ use Rattle.cl_ast.specs.declared.tree.TypeName.{TypeName}
 use Rattle.cl_ast.specs.declared.tree.TypeName.TheVariants as types
 use Rattle.cl_ast.specs.declared.statement.Function.{Function}
 use Rattle.cl_ast.specs.declared.statement.Parameter.{Parameter}
-use Rattle.cl_model.specs.Doing.{◌>>=◌, ◌>>◌, pure, trap, tick, claim, release, variables, set_variables, checked}
+use Rattle.cl_model.specs.Doing.{pure, trap, tick, claim, release, variables, set_variables, checked}
 use Rattle.cl_listing.specs.Names.{Name, same_name}
 use Rattle.cl_meaning.specs.Operators.{converted, zero_of}
 use Rattle.cl_meaning.specs.Variables.{Variable, Variables, called_with, back_in}
@@ -28,13 +28,13 @@ use Rattle.cl_typing.specs.Values.{IsOf}
 use Rattle.cl_typing.specs.Standing.{FitsAs, FitsScope, Fits, Sees, Fresh, function_in}
 use Rattle.cl_typing.specs.Requests.{Allows}
 use Rattle.cl_typing.specs.Texts.{parameters_declared}
-use Rattle.cl_typing.specs.Steps.{Right, Keeps}
-use Rattle.cl_typing.proofs.Leading.{right_bind, right_then, right_more, right_pure, right_variables, right_set, right_claim, right_release, keeps_bind, keeps_then, keeps_more, keeps_pure, keeps_trap, keeps_checked, keeps_tick}
+use Rattle.cl_typing.specs.Steps.{Keeps}
+use Rattle.cl_typing.proofs.Leading.{right_bind, right_then, right_variables, right_set, right_claim, right_release, keeps_bind, keeps_then, keeps_more, keeps_pure, keeps_trap, keeps_checked, keeps_tick}
 use Rattle.cl_typing.proofs.Operating.{converted_is}
 use Rattle.cl_typing.proofs.Found.{zero_is}
-use Rattle.cl_typing.proofs.Calling.{GivesResult, Takes, CallsRight, named_is}
+use Rattle.cl_typing.proofs.Calling.{GivesResult, CallsRight, named_is}
 use Rattle.cl_typing.proofs.Expressions.{Scene}
-use Rattle.cl_typing.proofs.Statements.{SomeMore, every_block}
+use Rattle.cl_typing.proofs.Statements.{every_block}
 
 -- a function without faults, with what is known at its statements
 pub record Fine (R : PlainRequest → Type 0) (text : List ℕ → ℕ) (site : ℕ → ℕ) (functions : List Function) (globals : List Declaration) (f : Function) : Type 0 where

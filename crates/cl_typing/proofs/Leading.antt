@@ -1,10 +1,10 @@
 -- How what leads right goes together.
-use Rattle.std.proofs.Common.{◌≡◌, ◌∙◌, ap, sym, ℕ, zero, suc, ◌+◌, Bool, true, false, List, [], ◌∷◌, ◌++◌, map, length, refl, subst, append_assoc}
+use Rattle.std.proofs.Common.{◌≡◌, ◌∙◌, sym, ℕ, zero, suc, ◌+◌, Bool, true, false, List, [], ◌∷◌, ◌++◌, map, length, refl, subst, append_assoc}
 use Rattle.std.proofs.lemmas.List.{append-nil}
 use Rattle.std.specs.Prelude.{nat_lt, if◌then◌else◌, Ok, Err}
 use Rattle.std.specs.List.{AllByRecursion}
 use Rattle.cl_value.specs.declared.process.Trap.{Trap}
-use Rattle.cl_value.specs.declared.process.Trap.TheVariants.{StepLimit, CellLimit, OutputLimit}
+use Rattle.cl_value.specs.declared.process.Trap.TheVariants.{CellLimit, OutputLimit}
 use Rattle.cl_value.specs.Plain.{PlainRequest, PlainReply}
 use Rattle.cl_value.specs.Acts.{fits}
 use Rattle.cl_model.specs.Doing.{Steps, Gives, Prints, Asks, Stops, State, Checked, then_do, ◌>>=◌, ◌>>◌, pure, trap, ask, print, variables, set_variables, counted, tick, ticks_left, claim, release, checked, each_onto, each}

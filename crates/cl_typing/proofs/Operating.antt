@@ -1,8 +1,7 @@
 -- What operators and conversions give is of the type that is judged of it.
 use Rattle.std.proofs.Common.{◌≡◌, ◌∙◌, ap, sym, subst, refl, Bool, true, false, not, Option, Some, None}
 use Rattle.std.proofs.Math.IntN.{neg_ℤ-neg_ℤ}
-use Rattle.std.specs.Prelude.{ℤ, pos, neg_ℤ, if◌then◌else◌, Ok, Err}
-use Rattle.cl_value.specs.declared.process.Trap.{Trap}
+use Rattle.std.specs.Prelude.{ℤ, neg_ℤ, if◌then◌else◌, Ok, Err}
 use Rattle.cl_value.specs.declared.process.Trap.TheVariants.{Overflow, DivideByZero}
 use Rattle.cl_value.specs.declared.value.Value.{Value}
 use Rattle.cl_value.specs.declared.value.Value.TheVariants.{Int, Long, Char, Text}
@@ -16,7 +15,7 @@ use Rattle.cl_ast.specs.declared.tree.Constant.TheVariants as constants
 use Rattle.cl_ast.specs.declared.tree.Operator.{Operator}
 use Rattle.cl_ast.specs.declared.tree.Operator.TheVariants as operators
 use Rattle.cl_model.specs.Doing.{Checked}
-use Rattle.cl_model.specs.Numbers.{number, truth, is_zero, is_within, int_or_trap, long_or_trap, in_common, as_int, and_then, quotient, remainder, negated}
+use Rattle.cl_model.specs.Numbers.{number, truth, is_zero, is_within, int_or_trap, long_or_trap, in_common, and_then, quotient, negated}
 use Rattle.cl_meaning.specs.Operators.{literal, field_type, converted, operated}
 use Rattle.cl_types.specs.declared.declared.Number.{Number}
 use Rattle.cl_types.specs.Numbers.{literal_value, plain_number, number_value, number_type}

@@ -1,9 +1,7 @@
 -- Constants and globals are of their types when a process begins.
-use Rattle.std.proofs.Common.{◌≡◌, ◌∙◌, ap, sym, subst, refl, ℕ, Bool, true, false, List, [], ◌∷◌, ◌++◌, length, append_assoc}
+use Rattle.std.proofs.Common.{◌≡◌, sym, subst, refl, Bool, true, false, List, [], ◌∷◌, ◌++◌, append_assoc}
 use Rattle.std.proofs.lemmas.List.{append-nil}
-use Rattle.std.specs.Prelude.{ℤ, pos, replicate}
-use Rattle.std.specs.List.{AllByRecursion}
-use Rattle.cl_value.specs.declared.value.Value.{Value}
+use Rattle.std.specs.Prelude.{ℤ}
 use Rattle.cl_ast.specs.declared.tree.TypeName.{TypeName}
 use Rattle.cl_ast.specs.declared.tree.TypeName.TheVariants as types
 use Rattle.cl_ast.specs.declared.tree.Constant.{Constant}

@@ -1,12 +1,11 @@
 -- Reading and changing variables where what is known stands: what is read is of the type that is judged, and all variables stay of theirs.
-use Rattle.std.proofs.Common.{◌≡◌, ◌∙◌, ap, sym, subst, refl, ℕ, Bool, true, false, List, [], ◌∷◌, ◌++◌, length, Option, Some, None}
-use Rattle.std.specs.Prelude.{ℤ, Ok, Err, if◌then◌else◌}
+use Rattle.std.proofs.Common.{◌≡◌, ◌∙◌, sym, subst, refl, ℕ, Bool, true, false, List, [], ◌∷◌, ◌++◌, length, Option, Some, None}
 use Rattle.std.specs.List.{AllByRecursion}
 use Rattle.cl_value.specs.declared.value.Value.{Value}
 use Rattle.cl_value.specs.Plain.{PlainRequest}
 use Rattle.cl_ast.specs.declared.tree.TypeName.{TypeName}
 use Rattle.cl_ast.specs.declared.statement.Function.{Function}
-use Rattle.cl_model.specs.Doing.{Checked, ◌>>=◌, pure, variables, set_variables, checked}
+use Rattle.cl_model.specs.Doing.{variables, checked}
 use Rattle.cl_model.specs.Numbers.{number}
 use Rattle.cl_listing.specs.Names.{Name}
 use Rattle.cl_meaning.specs.Operators.{converted}
@@ -17,8 +16,6 @@ use Rattle.cl_types.specs.declared.context.Access.TheVariants as accesses
 use Rattle.cl_types.specs.declared.declared.Declared.{Declared}
 use Rattle.cl_types.specs.declared.declared.Declared.TheVariants as declareds
 use Rattle.cl_types.specs.declared.declared.Number.{Number}
-use Rattle.cl_types.specs.declared.fault.TypeKind.{TypeKind}
-use Rattle.cl_types.specs.declared.fault.TypeKind.TheVariants as kinds
 use Rattle.cl_types.specs.Numbers.{number_type}
 use Rattle.cl_types.specs.Declarations.{Declaration, Known, look_up}
 use Rattle.cl_types.specs.Expressions.{access_type, unless_typed, place_type, place_faults}
@@ -133,8 +130,8 @@ module _ (R : PlainRequest → Type 0) (globals : List Declaration) (locals : Li
       let r = accessed accesses.Write i a.what a.type v a.typed f in
       keeps_bind R Kept (IsOf a.type) (λ u. Unit {0}) (checked (converted v.of value)) _ (keeps_checked R Kept (IsOf a.type) (converted v.of value) (λ w is. subst (λ t. IsOf t w) r.0 (converted_is v.of value w is)))
       (λ w is. right_bind R Kept (λ all v. Kept all) (λ u v. Kept v × Unit {0}) variables _ (right_variables R Kept (λ all v. Kept all) (λ v k. k))
-          (λ all. right_set R (λ v. Kept all) (λ u v. Kept v × Unit {0}) (changed name (with_element at w) all)
-              (λ v k. (changed_fits name a.what globals locals all (with_element at w) (written i a.what a.type at w a.typed is) a.stands k, tt)))))
+      (λ all. right_set R (λ v. Kept all) (λ u v. Kept v × Unit {0}) (changed name (with_element at w) all)
+      (λ v k. (changed_fits name a.what globals locals all (with_element at w) (written i a.what a.type at w a.typed is) a.stands k, tt)))))
 
   -- ---- places
 

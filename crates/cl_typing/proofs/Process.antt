@@ -1,38 +1,36 @@
 -- A process of a text without faults, which begins as it fits: each request is one of the text, and what it gives is of the right types.
-use Rattle.std.proofs.Common.{◌≡◌, ◌∙◌, ap, sym, subst, refl, ℕ, suc, Bool, true, false, List, [], ◌∷◌, ◌++◌, length, Option, Some, None, inl, inr}
-use Rattle.std.specs.Prelude.{◌⊎◌, slice_get, if◌then◌else◌, pos}
+use Rattle.std.proofs.Common.{◌≡◌, ◌∙◌, ap, sym, subst, refl, ℕ, suc, Bool, true, false, List, [], ◌∷◌, ◌++◌, length, Some, inl, inr}
+use Rattle.std.specs.Prelude.{slice_get, if◌then◌else◌, pos}
 use Rattle.std.specs.List.{AllByRecursion}
 use Rattle.std.specs.Cmp.Lexicographic.{bytes_decides}
 use Rattle.cl_value.specs.declared.value.Value.{Value}
 use Rattle.cl_value.specs.declared.value.Value.TheVariants.{Int}
-use Rattle.cl_value.specs.Plain.{PlainRequest, PlainReply, PlainAsk, Out, In, Rd, Inp, Rdp, Eval, Land, PlainPart, Ready, Call, PlainStart, Main, Lives}
+use Rattle.cl_value.specs.Plain.{PlainRequest, PlainReply, Eval, PlainPart, Ready, Call, PlainStart, Main, Lives}
 use Rattle.cl_value.specs.Acts.{fits}
 use Rattle.cl_ast.specs.declared.tree.Expr.{Expr}
 use Rattle.cl_ast.specs.declared.tree.Verb.{Verb}
 use Rattle.cl_ast.specs.declared.tree.Verb.TheVariants as verbs
 use Rattle.cl_ast.specs.declared.tree.Field.{Field}
-use Rattle.cl_ast.specs.declared.tree.Operation.{Operation, out-Operation}
+use Rattle.cl_ast.specs.declared.tree.Operation.{out-Operation}
 use Rattle.cl_ast.specs.declared.statement.Parameter.{Parameter}
 use Rattle.cl_ast.specs.declared.statement.Function.{Function}
 use Rattle.cl_ast.specs.declared.statement.Item.{Item}
 use Rattle.cl_ast.specs.declared.statement.Item.TheVariants as items
-use Rattle.cl_model.specs.Demand.{Outcome, Wants, Finishes, Traps, Misfit}
-use Rattle.cl_model.specs.Doing.{Steps, Gives, Prints, Asks, Stops, State, ◌>>=◌, ◌>>◌, pure, claim, outcome_after, demand_of}
+use Rattle.cl_model.specs.Demand.{Misfit}
+use Rattle.cl_model.specs.Doing.{Steps, Gives, Prints, Asks, Stops, State, claim, demand_of}
 use Rattle.cl_listing.specs.Names.{same_name}
 use Rattle.cl_listing.specs.Listing.{in_items, site_at, texts_of, text_number}
-use Rattle.cl_meaning.specs.Operators.{field_type}
 use Rattle.cl_meaning.specs.Variables.{Variables}
 use Rattle.cl_meaning.specs.Operations.{Does}
-use Rattle.cl_meaning.specs.Outer.{functions_of, outer}
+use Rattle.cl_meaning.specs.Outer.{functions_of}
 use Rattle.cl_meaning.specs.Expressions.{value}
 use Rattle.cl_meaning.specs.Calls.{result_type, function_named, surroundings, calls, run}
 use Rattle.cl_meaning.specs.Process.{fixed, begun, cells_of_globals, main, called_at, part_does, parts_do, live, process, demands}
 use Rattle.cl_types.specs.declared.fault.TypeKind.TheVariants as kinds
 use Rattle.cl_types.specs.Notes.{found}
-use Rattle.cl_types.specs.Declarations.{Declaration}
 use Rattle.cl_types.specs.Expressions.{judged, constant_of}
 use Rattle.cl_types.specs.Fields.{expr_forms}
-use Rattle.cl_types.specs.Items.{main_name, is_empty, is_main, has_main, items_walked, known_first}
+use Rattle.cl_types.specs.Items.{main_name, is_empty, has_main, items_walked, known_first}
 use Rattle.cl_types.specs.Unit.{main_notes, faults}
 use Rattle.cl_types.specs.Findings.{Finding, Forms}
 use Rattle.cl_types.specs.Findings as findings_of
@@ -41,9 +39,9 @@ use Rattle.cl_types.proofs.Clean.{Clean, clean_split, clean_unit}
 use Rattle.cl_typing.specs.Bodies.{are_settled}
 use Rattle.cl_typing.specs.Values.{IsOf, IsOfFound, IsFoundNumber}
 use Rattle.cl_typing.specs.Standing.{FitsScope, Fits, function_in}
-use Rattle.cl_typing.specs.Requests.{AreArguments, Beside, PartSuits, AskSuits, Suits, Allows}
+use Rattle.cl_typing.specs.Requests.{AreArguments, Beside, PartSuits, AskSuits, Allows}
 use Rattle.cl_typing.specs.Texts.{outside, parameters_declared, PartFits, StartFits, Becomes, Become, EndFits, AsksAt, IsRequestOf, OutcomeFits}
-use Rattle.cl_typing.specs.Steps.{Leads, Right, Keeps}
+use Rattle.cl_typing.specs.Steps.{Leads, Keeps}
 use Rattle.cl_typing.proofs.Leading.{leads_more, right_claim, keeps_bind, keeps_then, keeps_more, keeps_pure}
 use Rattle.cl_typing.proofs.Calling.{GivesResult, Takes, CallsRight, named_is}
 use Rattle.cl_typing.proofs.Expressions.{Scene, every_expr}

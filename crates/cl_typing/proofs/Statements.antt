@@ -1,18 +1,17 @@
 -- Where no fault is noted in a statement, it keeps variables at their types, and behind it what is known stands.
-use Rattle.std.proofs.Common.{◌≡◌, ◌∙◌, ap, sym, subst, refl, ℕ, zero, suc, Bool, true, false, ◌&&◌, List, [], ◌∷◌, ◌++◌, map, length, Option, Some, None}
-use Rattle.std.specs.Prelude.{option_map, replicate, if◌then◌else◌, pos, Ok}
+use Rattle.std.proofs.Common.{◌≡◌, ◌∙◌, ap, sym, subst, refl, ℕ, zero, suc, true, false, ◌&&◌, List, [], ◌∷◌, ◌++◌, map, length, Option, Some, None}
+use Rattle.std.specs.Prelude.{option_map, replicate, pos}
 use Rattle.std.specs.List.{AllByRecursion}
 use Rattle.cl_value.specs.declared.value.Value.{Value}
 use Rattle.cl_value.specs.declared.value.Value.TheVariants.{Int}
 use Rattle.cl_value.specs.declared.process.Trap.TheVariants.{StepLimit}
 use Rattle.cl_value.specs.Plain.{PlainRequest}
 use Rattle.cl_ast.specs.declared.span.Span.{Span}
-use Rattle.cl_ast.specs.declared.tree.Name.{Name as Named}
 use Rattle.cl_ast.specs.declared.tree.TypeName.{TypeName}
 use Rattle.cl_ast.specs.declared.tree.Operator.{Operator}
 use Rattle.cl_ast.specs.declared.tree.Operator.TheVariants as operators
 use Rattle.cl_ast.specs.declared.tree.Expr.{Expr}
-use Rattle.cl_ast.specs.declared.tree.Place.{Place, out-Place}
+use Rattle.cl_ast.specs.declared.tree.Place.{out-Place}
 use Rattle.cl_ast.specs.declared.tree.Call.{Call}
 use Rattle.cl_ast.specs.declared.tree.Operation.{Operation}
 use Rattle.cl_ast.specs.declared.tree.Spanned.{Spanned}
@@ -36,7 +35,7 @@ use Rattle.cl_ast.specs.declared.statement.Change.TheVariants as changes
 use Rattle.cl_ast.specs.declared.statement.Print.{Print}
 use Rattle.cl_ast.specs.declared.statement.Return.{Return}
 use Rattle.cl_ast.specs.declared.statement.Function.{Function}
-use Rattle.cl_model.specs.Doing.{◌>>=◌, ◌>>◌, pure, trap, print, tick, ticks_left, variables, set_variables, checked, each}
+use Rattle.cl_model.specs.Doing.{◌>>◌, pure, trap, print, tick, ticks_left, variables, set_variables, checked, each}
 use Rattle.cl_model.specs.Numbers.{is_zero}
 use Rattle.cl_listing.specs.Names.{Name}
 use Rattle.cl_meaning.specs.Operators.{converted, zero_of, operated}
@@ -46,7 +45,6 @@ use Rattle.cl_meaning.specs.Printing.{filled}
 use Rattle.cl_meaning.specs.Expressions.{Surroundings, PlaceDoes, value, place_meant, call, operation}
 use Rattle.cl_meaning.specs.Calls.{live_call}
 use Rattle.cl_meaning.specs.Statements.{Exit, WentOn, Broke, Continued, Returned, before, in_order, scoped, going_on, declare, behind_body, turn, turns, loop, do_turn, do_turns, do_loop, or_nothing, or_true, form_does, declarator_does, declaration_does, updated, change_does, print_does, returned, does, body_does}
-use Rattle.cl_meaning.specs.Parts.{if_exit, while_exit, do_exit, for_exit}
 use Rattle.cl_meaning.proofs.Equations.{place_name}
 use Rattle.cl_meaning.proofs.Sentences as meant
 use Rattle.cl_types.specs.declared.context.Access.TheVariants as accesses
@@ -56,18 +54,18 @@ use Rattle.cl_types.specs.declared.context.Reach.TheVariants as reaches
 use Rattle.cl_types.specs.declared.declared.Declared.{Declared}
 use Rattle.cl_types.specs.declared.declared.Declared.TheVariants as declareds
 use Rattle.cl_types.specs.declared.directive.Directive.{Directive}
-use Rattle.cl_types.specs.Notes.{Note, found_all}
+use Rattle.cl_types.specs.Notes.{found_all}
 use Rattle.cl_types.specs.Declarations.{Declaration, Known, declared_again, enter, is_declared_here}
 use Rattle.cl_types.specs.Declarations as known_names
-use Rattle.cl_types.specs.Expressions.{judged, judged_place, judged_call, operation_notes, constant_of, count_faults}
+use Rattle.cl_types.specs.Expressions.{judged, judged_place, constant_of, count_faults}
 use Rattle.cl_types.specs.Formats.{directives_of}
 use Rattle.cl_types.specs.Statements.{Walked, in_context, in_loop, scoped_notes, maybe_notes, test_notes, initial_faults, form_notes, form_declared, declarator_walked, variables_walked, change_notes, assign_notes, argument_faults, argument_notes, arguments_notes, print_parts, value_return_faults, value_notes, walked, block_walked}
 use Rattle.cl_types.specs.Statements as walks
 use Rattle.cl_types.specs.Loops.{if_notes, for_notes}
 use Rattle.cl_types.specs.Findings.{Forms}
-use Rattle.cl_types.specs.Fields.{expr_forms, place_forms, call_forms, operation_forms}
+use Rattle.cl_types.specs.Fields.{expr_forms, place_forms}
 use Rattle.cl_types.specs.Gathered.{maybe_forms}
-use Rattle.cl_types.specs.Found.{onward, change_forms, assign_forms, initial_forms, variable_behind, declarator_forms, variables_forms, printed_forms, anywhere, known_behind, stmt_forms, block_forms}
+use Rattle.cl_types.specs.Found.{onward, change_forms, initial_forms, variable_behind, declarator_forms, variables_forms, printed_forms, anywhere, known_behind, stmt_forms, block_forms}
 use Rattle.cl_types.specs.Adds.{alone_forms, maybe_stmt_forms}
 use Rattle.cl_types.proofs.Sentences as sentences
 use Rattle.cl_types.proofs.Stating as stating
@@ -80,7 +78,7 @@ use Rattle.cl_typing.specs.Steps.{Right, Keeps}
 use Rattle.cl_typing.proofs.Leading.{Paired, right_bind, right_then, right_more, right_pure, right_variables, right_set, keeps_bind, keeps_then, keeps_more, keeps_pure, keeps_trap, keeps_checked, keeps_tick, keeps_print, keeps_ticks_left, keeps_if, keeps_each}
 use Rattle.cl_typing.proofs.Operating.{converted_is}
 use Rattle.cl_typing.proofs.Found.{declared_fits, entered_fits, left_fits, zero_is}
-use Rattle.cl_typing.proofs.Places.{Accesses, value_any, store_keeps}
+use Rattle.cl_typing.proofs.Places.{value_any, store_keeps}
 use Rattle.cl_typing.proofs.Calling.{CallsRight}
 use Rattle.cl_typing.proofs.Expressions.{Scene, all_split, place_accesses}
 use Rattle.cl_typing.proofs.Expressions as typed
@@ -155,12 +153,15 @@ module _ (R : PlainRequest → Type 0) (around : Surroundings) (functions : List
   -- where nothing is declared
   plainly : (x : Stmt) (c : Here) → known_behind x c.known ≡ c.known → Safe c (does around length_of x) →
       ((stands x).declares ≡ false → Safe c (does around length_of x)) × (Fresh c.inner c.known → Leaves c (does around length_of x) (known_behind x c.known))
-  plainly x c is safe = (λ no. safe, λ fresh. record {
-    inner = c.inner;
-    sees = subst (Sees functions globals c.outer c.inner) (sym is) c.sees;
-    fresh = subst (Fresh c.inner) (sym is) fresh;
-    right = right_more R (Kept c) (λ e all. Kept c all × Unit {0}) (λ e all. Kept c all) (does around length_of x) safe (λ e all p. p.0);
-  })
+  plainly x c is safe = (
+    λ no. safe,
+    λ fresh. record {
+      inner = c.inner;
+      sees = subst (Sees functions globals c.outer c.inner) (sym is) c.sees;
+      fresh = subst (Fresh c.inner) (sym is) fresh;
+      right = right_more R (Kept c) (λ e all. Kept c all × Unit {0}) (λ e all. Kept c all) (does around length_of x) safe (λ e all p. p.0);
+    },
+  )
 
   safe_is : (c : Here) (d d' : Does Exit) → d ≡ d' → Safe c d' → Safe c d
   safe_is c d d' is h = subst (Safe c) (sym is) h
@@ -473,16 +474,19 @@ module _ (R : PlainRequest → Type 0) (around : Surroundings) (functions : List
   variables_right x c fresh clean allowed = declarators_right x.type_name x.declarators c fresh clean allowed
 
   variables_good : (x : Declared_variables) → GoodStmt (stmts.Variables x)
-  variables_good x c context ok clean allowed = (λ no. absurd (let yes : true ≡ false = sym (ap (λ (s : Standing). s.declares) (settled.of_variables x)) ∙ no in cc), λ fresh.
-      let is = ap (λ (w : Walked). w.known) (sentences.of_variables x anywhere c.known) in
-      let d = variables_right x c fresh (subst (λ (w : Walked). Clean w.notes) (sentences.of_variables x context c.known) clean) (subst Allowed (stating.of_variables x c.known) allowed) in
-      let P : Exit → Variables → Type 0 = λ e all. Fits globals (c.outer ++ d.inner ∷ []) all in
-      record {
-        inner = d.inner;
-        sees = subst (Sees functions globals c.outer d.inner) (sym is) d.sees;
-        fresh = subst (Fresh d.inner) (sym is) d.fresh;
-        right = subst (Right R (Kept c) P) (sym (meant.of_variables around length_of x)) (right_more R (Kept c) (λ e all. (e ≡ WentOn) × P e all) P (declaration_does around length_of x) d.right (λ e all p. p.1));
-      })
+  variables_good x c context ok clean allowed = (
+    λ no. absurd (let yes : true ≡ false = sym (ap (λ (s : Standing). s.declares) (settled.of_variables x)) ∙ no in cc),
+    λ fresh.
+        let is = ap (λ (w : Walked). w.known) (sentences.of_variables x anywhere c.known) in
+        let d = variables_right x c fresh (subst (λ (w : Walked). Clean w.notes) (sentences.of_variables x context c.known) clean) (subst Allowed (stating.of_variables x c.known) allowed) in
+        let P : Exit → Variables → Type 0 = λ e all. Fits globals (c.outer ++ d.inner ∷ []) all in
+        record {
+          inner = d.inner;
+          sees = subst (Sees functions globals c.outer d.inner) (sym is) d.sees;
+          fresh = subst (Fresh d.inner) (sym is) d.fresh;
+          right = subst (Right R (Kept c) P) (sym (meant.of_variables around length_of x)) (right_more R (Kept c) (λ e all. (e ≡ WentOn) × P e all) P (declaration_does around length_of x) d.right (λ e all p. p.1));
+        },
+  )
 
   -- ---- blocks
 

@@ -1,7 +1,7 @@
 -- In a text without faults what is known at each function stands, and each function is fine.
-use Rattle.std.proofs.Common.{◌≡◌, ◌∙◌, ap, sym, subst, refl, ℕ, Bool, true, false, ◌&&◌, List, [], ◌∷◌, ◌++◌, map, Option, Some, None, is_some, append_assoc}
+use Rattle.std.proofs.Common.{◌≡◌, ◌∙◌, ap, sym, subst, refl, ℕ, Bool, true, false, List, [], ◌∷◌, ◌++◌, map, Option, Some, None, is_some, append_assoc}
 use Rattle.std.proofs.lemmas.List.{append-nil}
-use Rattle.std.specs.Prelude.{option_map, if◌then◌else◌}
+use Rattle.std.specs.Prelude.{if◌then◌else◌}
 use Rattle.std.specs.List.{AllByRecursion}
 use Rattle.std.specs.Cmp.Lexicographic.{bytes_decides}
 use Rattle.cl_value.specs.Plain.{PlainRequest}
@@ -20,17 +20,14 @@ use Rattle.cl_types.specs.declared.declared.Declared.TheVariants as declareds
 use Rattle.cl_types.specs.declared.declared.FunctionType.{FunctionType}
 use Rattle.cl_types.specs.declared.context.Reach.{Reach}
 use Rattle.cl_types.specs.declared.context.Reach.TheVariants as reaches
-use Rattle.cl_types.specs.declared.fault.TypeKind.TheVariants as kinds
-use Rattle.cl_types.specs.Notes.{Note, found}
 use Rattle.cl_types.specs.Declarations.{Declaration, Known, declaration_in, what_of, look_up, is_declared_here, declare, declared_again, enter}
 use Rattle.cl_types.specs.Statements.{in_order, form_notes, form_declared, declarator_walked, block_walked}
-use Rattle.cl_types.specs.Items.{function_type, define_number, parameter_walked, parameters_walked, function_context, body_walked, function_known, function_declared, with_function, with_functions, item_walked, items_walked, known_first}
-use Rattle.cl_types.specs.Items as known_items
+use Rattle.cl_types.specs.Items.{function_type, define_number, parameter_walked, parameters_walked, function_context, body_walked, function_known, function_declared, with_function, with_functions, items_walked, known_first}
 use Rattle.cl_types.specs.Findings.{Forms}
 use Rattle.cl_types.specs.Found.{onward, block_forms, item_forms, item_behind}
 use Rattle.cl_types.proofs.Clean.{Clean, clean_split}
 use Rattle.cl_typing.specs.Bodies.{is_settled, are_settled}
-use Rattle.cl_typing.specs.Standing.{first_in, standing, IsVariable, HasFunction, Sees, Fresh, function_in}
+use Rattle.cl_typing.specs.Standing.{first_in, IsVariable, HasFunction, Sees, Fresh, function_in}
 use Rattle.cl_typing.specs.Requests.{Allows}
 use Rattle.cl_typing.specs.Texts.{variables_declared, outside, parameters_declared}
 use Rattle.cl_typing.proofs.Expressions.{all_split}
@@ -254,6 +251,7 @@ module _ (functions : List Function) where
         let own : function_in functions f.name.bytes ≡ Some f = ap (λ fs. function_in fs f.name.bytes) hf ∙ own_function earlier f (functions_of xs) (s.unseen f.name.bytes isnt) in
         let seen = function_more before earlier known f s isnt own in
         let fs = all_split _ (item_forms (items.Function f) known) (onward item_forms item_behind xs next) allowed in
-        let stood = both_true (is_settled f.body) (are_settled xs) ok in
-        (function_fine before (outside xs) (earlier ++ f ∷ []) known f hg seen own stood.0 own_notes.1 fs.0,
-        items_fine xs before (earlier ++ f ∷ []) next seen (hf ∙ sym (append_assoc earlier (f ∷ []) (functions_of xs))) hg stood.1 two.1 fs.1)
+        let stood = both_true (is_settled f.body) (are_settled xs) ok in (
+          function_fine before (outside xs) (earlier ++ f ∷ []) known f hg seen own stood.0 own_notes.1 fs.0,
+          items_fine xs before (earlier ++ f ∷ []) next seen (hf ∙ sym (append_assoc earlier (f ∷ []) (functions_of xs))) hg stood.1 two.1 fs.1,
+        )

@@ -1,5 +1,5 @@
 -- Which variables stand at a place, and variables that are of the types by which they are known. (ISO/IEC 9899:1999, 6.2.1.)
-use Rattle.std.specs.Prelude.{◌≡◌, ℕ, Bool, false, List, [], ◌∷◌, ◌++◌, length, Option, Some, None, if◌then◌else◌}
+use Rattle.std.specs.Prelude.{◌≡◌, false, List, [], ◌∷◌, ◌++◌, length, Option, Some, None, if◌then◌else◌}
 use Rattle.std.specs.List.{AllByRecursion}
 use Rattle.cl_ast.specs.declared.statement.Function.{Function}
 use Rattle.cl_listing.specs.Names.{Name, same_name}
@@ -7,7 +7,6 @@ use Rattle.cl_meaning.specs.Variables.{Variable, Scope, Variables}
 use Rattle.cl_types.specs.declared.declared.Declared.{Declared}
 use Rattle.cl_types.specs.declared.declared.Declared.TheVariants as declareds
 use Rattle.cl_types.specs.declared.declared.FunctionType.{FunctionType}
-use Rattle.cl_types.specs.declared.declared.Number.{Number}
 use Rattle.cl_types.specs.Numbers.{number_type}
 use Rattle.cl_types.specs.Declarations.{Declaration, Known, look_up, is_declared_here}
 use Rattle.cl_types.specs.Items.{function_type}
