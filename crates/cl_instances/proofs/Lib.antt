@@ -2,3 +2,4 @@ pub mod Marks
 pub mod Numbers
 pub mod Order
 pub mod Requests
+pub mod Rising
