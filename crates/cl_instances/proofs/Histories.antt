@@ -1,13 +1,13 @@
 -- In each legal history of a text without faults, each act is an instance of its site's signature, and each process began as it fits.
-use Rattle.std.proofs.Common.{◌≡◌, ◌∙◌, ap, sym, subst, refl, ℕ, ◌+◌, Bool, true, false, ◌==◌, ◌&&◌, List, [], ◌∷◌, map, Option, Some, None}
+use Rattle.std.proofs.Common.{◌≡◌, ◌∙◌, ap, sym, subst, refl, ℕ, ◌+◌, Bool, true, false, ◌==◌, ◌&&◌, List, [], ◌∷◌, Option, Some, None}
 use Rattle.std.specs.Prelude.{option_map, slice_get, if◌then◌else◌}
 use Rattle.std.specs.List.{AllByRecursion}
 use Rattle.cl_value.specs.declared.value.Value.{Value}
-use Rattle.cl_value.specs.Plain.{PlainPart, PlainAsk, Eval, Land, PlainRequest, PlainReply, PlainStart, Main, Lives, PlainWhat, DidOut, DidIn, DidRd, InpHit, InpMiss, RdpHit, RdpMiss, DidEval, DidLand, PlainAct}
-use Rattle.cl_value.specs.Acts.{request_of, is_eval}
+use Rattle.cl_value.specs.Plain.{PlainPart, Eval, Land, PlainRequest, PlainReply, PlainStart, Main, Lives, PlainWhat, DidOut, DidIn, DidRd, InpHit, InpMiss, RdpHit, RdpMiss, DidEval, DidLand, PlainAct}
+use Rattle.cl_value.specs.Acts.{is_eval}
 use Rattle.cl_ast.specs.declared.statement.Item.{Item}
-use Rattle.cl_model.specs.Demand.{Outcome, Wants, Finishes}
-use Rattle.cl_model.specs.Machine.{Process, State, fresh, first, told, depth_of, made_by, made_in, processes_after, changed, BeganAt, DemandAllows, MayCome, after_from, StepsFrom, Legal, after}
+use Rattle.cl_model.specs.Demand.{Wants, Finishes}
+use Rattle.cl_model.specs.Machine.{Process, State, fresh, first, told, depth_of, made_by, made_in, changed, BeganAt, DemandAllows, MayCome, after_from, StepsFrom, Legal, after}
 use Rattle.cl_listing.specs.Listing.{in_items}
 use Rattle.cl_listing.specs.Listed.{sites_in}
 use Rattle.cl_meaning.specs.Process.{demands}
@@ -16,10 +16,9 @@ use Rattle.cl_sig.specs.Instances.{ask_fits, is_instance_at, is_of_its_site}
 use Rattle.cl_sig.specs.Signatures.{PlainSignature}
 use Rattle.cl_sig.specs.declared.signature.Kind.{Kind}
 use Rattle.cl_sig.specs.declared.signature.Kind.TheVariants as kinds
-use Rattle.cl_sig.specs.declared.signature.Mark.{Mark}
 use Rattle.cl_sites.specs.Sites.{signatures_of}
 use Rattle.cl_typing.specs.Bodies.{are_settled}
-use Rattle.cl_typing.specs.Texts.{StartFits, EndFits, Become, IsRequestOf, OutcomeFits}
+use Rattle.cl_typing.specs.Texts.{StartFits, Become, IsRequestOf, OutcomeFits}
 use Rattle.cl_typing.proofs.Process.{demands_fit, evals_fit}
 use Rattle.cl_instances.specs.Apart.{are_apart}
 use Rattle.cl_instances.specs.Sources.{IsInstance}

@@ -1,8 +1,8 @@
 -- A field that is what was found of it fits the mark that is told of it.
-use Rattle.std.proofs.Common.{◌≡◌, ◌∙◌, ap, sym, subst, refl, ℕ, Bool, true, false, ◌==◌, ◌&&◌, List, [], ◌∷◌, Option, Some, None}
+use Rattle.std.proofs.Common.{◌≡◌, ◌∙◌, ap, sym, subst, refl, ℕ, Bool, true, false, ◌&&◌, List, [], ◌∷◌, Some, None}
 use Rattle.std.proofs.lemmas.Bool.{eq-eqb}
 use Rattle.std.specs.Cmp.{signed_Decides}
-use Rattle.std.specs.Prelude.{ℤ, Ok, Err, if◌then◌else◌}
+use Rattle.std.specs.Prelude.{ℤ, Ok, Err}
 use Rattle.std.specs.Ordering.{int_eq}
 use Rattle.std.specs.List.{AllByRecursion}
 use Rattle.cl_value.specs.declared.value.Value.{Value}
@@ -13,7 +13,6 @@ use Rattle.cl_value.specs.declared.template.Slot.{Slot}
 use Rattle.cl_value.specs.declared.template.Slot.TheVariants as slots
 use Rattle.cl_value.specs.Matching.{type_of, same_type, same_value}
 use Rattle.cl_value.specs.Plain.{PlainPart, Ready, Call, PlainAsk, Out, In, Rd, Inp, Rdp, Eval, Land}
-use Rattle.cl_ast.specs.declared.tree.TypeName.{TypeName}
 use Rattle.cl_ast.specs.declared.tree.Constant.{Constant}
 use Rattle.cl_ast.specs.declared.tree.Verb.{Verb}
 use Rattle.cl_ast.specs.declared.tree.Verb.TheVariants as verbs
@@ -21,7 +20,7 @@ use Rattle.cl_ast.specs.declared.tree.Field.{Field}
 use Rattle.cl_ast.specs.declared.statement.Function.{Function}
 use Rattle.cl_listing.specs.Listing.{text_number}
 use Rattle.cl_model.specs.Doing.{Checked}
-use Rattle.cl_model.specs.Numbers.{number, negated}
+use Rattle.cl_model.specs.Numbers.{number}
 use Rattle.cl_meaning.specs.Operators.{literal, field_type}
 use Rattle.cl_types.specs.declared.declared.Number.{Number}
 use Rattle.cl_types.specs.Numbers.{plain_number}
@@ -33,7 +32,7 @@ use Rattle.cl_sig.specs.Instances.{value_fits, slot_fits, part_fits, ask_fits}
 use Rattle.cl_sig.specs.declared.signature.Mark.{Mark}
 use Rattle.cl_sig.specs.declared.signature.Mark.TheVariants as marks
 use Rattle.cl_sites.specs.Sites.{kind_of, number_gives, told_or_typed, number_mark, mark_of, marks_of}
-use Rattle.cl_typing.specs.Values.{IsOf, IsNumber}
+use Rattle.cl_typing.specs.Values.{IsNumber}
 use Rattle.cl_typing.specs.Requests.{text_bytes, Beside, ValueSuits, SlotSuits, PartSuits, AskSuits}
 use Rattle.cl_typing.proofs.Operating.{literal_is, literal_number, negated_number}
 

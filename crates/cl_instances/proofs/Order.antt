@@ -1,23 +1,20 @@
 -- The operations of a text that tokens derive stand at starts of tokens, in their order: where no two tokens begin at one place, no two operations do.
-use Rattle.std.proofs.Common.{◌≡◌, ◌∙◌, ap, sym, subst, refl, ℕ, Bool, true, false, not, ◌==◌, ◌&&◌, ◌||◌, List, [], ◌∷◌, ◌++◌, map, Option, Some, None, append_assoc, inl, inr}
+use Rattle.std.proofs.Common.{◌≡◌, ◌∙◌, ap, sym, subst, refl, ℕ, Bool, true, false, not, ◌==◌, ◌&&◌, ◌||◌, List, [], ◌∷◌, ◌++◌, map, append_assoc, inl, inr}
 use Rattle.std.proofs.lemmas.List.{append-nil, map-append}
-use Rattle.std.specs.Prelude.{◌⊎◌, option_map}
+use Rattle.std.specs.Prelude.{◌⊎◌}
 use Rattle.cl_rules.specs.Syntax.{Rule, Token, Nothing, Both, Either, Many, Counted, Symbol, Derivation, leaf, empty, pair, first, second, none, more, part, node, tokens}
 use Rattle.cl_rules.specs.Values.{Parts, value}
 use Rattle.cl_ast.specs.declared.word.Word.TheVariants as words
 use Rattle.cl_ast.specs.declared.mark.Mark.TheVariants as marks
 use Rattle.cl_ast.specs.Plain.{PlainToken, PlainKind}
 use Rattle.cl_ast.specs.Plain as kinds
-use Rattle.cl_ast.specs.declared.span.Span.{Span}
 use Rattle.cl_ast.specs.declared.tree.Expr.{Expr}
-use Rattle.cl_ast.specs.declared.tree.Expr.TheVariants as exprs
 use Rattle.cl_ast.specs.declared.tree.Expr.TheViews.{out-roll-Call, out-roll-Chain, out-roll-Formal, out-roll-Link, out-roll-Operation, out-roll-Place, out-roll-Prefix}
 use Rattle.cl_ast.specs.declared.tree.Expr.TheOpen.{Call-F, Chain-F, Formal-F, Link-F, Operation-F, Place-F, Prefix-F}
 use Rattle.cl_ast.specs.declared.tree.Place.{Place, roll-Place}
 use Rattle.cl_ast.specs.declared.tree.Call.{Call, roll-Call}
 use Rattle.cl_ast.specs.declared.tree.Operation.{Operation, roll-Operation}
 use Rattle.cl_ast.specs.declared.tree.Field.{Field}
-use Rattle.cl_ast.specs.declared.tree.Field.TheVariants as field_forms
 use Rattle.cl_ast.specs.declared.tree.Formal.{Formal, roll-Formal}
 use Rattle.cl_ast.specs.declared.tree.Chain.{Chain, roll-Chain}
 use Rattle.cl_ast.specs.declared.tree.Link.{Link, roll-Link}
@@ -34,7 +31,6 @@ use Rattle.cl_ast.specs.declared.statement.If.{If, roll-If}
 use Rattle.cl_ast.specs.declared.statement.While.{While, roll-While}
 use Rattle.cl_ast.specs.declared.statement.Variables.{Variables}
 use Rattle.cl_ast.specs.declared.statement.Declarator.{Declarator}
-use Rattle.cl_ast.specs.declared.statement.Item.{Item}
 use Rattle.cl_ast.specs.Grammar.{Part, rules, unit}
 use Rattle.cl_ast.specs.Grammar as parts
 use Rattle.cl_ast.specs.Trees.{tree_of, build, meaning}

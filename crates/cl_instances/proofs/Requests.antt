@@ -1,16 +1,14 @@
 -- Each request of a process of a text without faults is an instance of its site's signature, and what a live tuple lands is one of its `eval`.
 use Rattle.std.proofs.Common.{◌≡◌, ◌∙◌, ap, sym, subst, refl, ℕ, suc, Bool, true, false, ◌&&◌, List, [], ◌∷◌, ◌++◌, map, length, Some, append_assoc, inl, inr}
-use Rattle.std.specs.Prelude.{◌⊎◌, slice_get}
-use Rattle.std.specs.List.{AllByRecursion}
+use Rattle.std.specs.Prelude.{slice_get}
 use Rattle.std.proofs.lemmas.List.{map-append}
 use Rattle.cl_value.specs.declared.value.Value.{Value}
-use Rattle.cl_value.specs.declared.value.FieldType.{FieldType}
-use Rattle.cl_value.specs.Matching.{type_of, same_type}
-use Rattle.cl_value.specs.Plain.{PlainPart, Ready, Call, PlainAsk, PlainRequest, PlainReply, PlainStart}
+use Rattle.cl_value.specs.Matching.{same_type}
+use Rattle.cl_value.specs.Plain.{PlainPart, Ready, Call, PlainRequest, PlainReply, PlainStart}
 use Rattle.cl_ast.specs.declared.tree.Operation.{Operation, out-Operation}
 use Rattle.cl_ast.specs.declared.statement.Function.{Function}
 use Rattle.cl_ast.specs.declared.statement.Item.{Item}
-use Rattle.cl_model.specs.Demand.{Outcome, Wants}
+use Rattle.cl_model.specs.Demand.{Wants}
 use Rattle.cl_listing.specs.Listing.{Entries, in_items, site_at, texts_of, text_number}
 use Rattle.cl_listing.specs.Listed.{sites_in}
 use Rattle.cl_meaning.specs.Outer.{functions_of}
@@ -18,7 +16,7 @@ use Rattle.cl_meaning.specs.Process.{demands}
 use Rattle.cl_types.specs.Unit.{faults}
 use Rattle.cl_types.specs.Findings.{Finding, Forms, tell_own, told}
 use Rattle.cl_types.specs.Found.{findings, sites_of}
-use Rattle.cl_types.specs.EachTyped.{HasType, EachTyped}
+use Rattle.cl_types.specs.EachTyped.{EachTyped}
 use Rattle.cl_types.proofs.Faultless.{unit_typed}
 use Rattle.cl_sig.specs.Beside.{all_beside}
 use Rattle.cl_sig.specs.Instances.{value_fits, part_fits, is_tuple_of, is_live_of, is_instance_at, is_of_its_site}
@@ -30,7 +28,6 @@ use Rattle.cl_sig.specs.declared.signature.Mark.TheVariants as marks
 use Rattle.cl_sites.specs.Sites.{signature_of, signatures_of}
 use Rattle.cl_sites.proofs.PlacesOfTexts.{stands_at, places_listed}
 use Rattle.cl_typing.specs.Bodies.{are_settled}
-use Rattle.cl_typing.specs.Requests.{Suits}
 use Rattle.cl_typing.specs.Texts.{StartFits, Becomes, Become, AsksAt, IsRequestOf, OutcomeFits}
 use Rattle.cl_typing.proofs.Process.{demands_fit}
 use Rattle.cl_instances.specs.Apart.{are_apart}

@@ -1,10 +1,8 @@
 -- A source that is read has its declarations in blocks, and no two operations at one place; so where it has no faults, each act of each legal history
 -- of its meaning is an instance of its site's signature.
-use Rattle.std.proofs.Common.{◌≡◌, ◌∙◌, ap, sym, subst, ℕ, true, List, []}
+use Rattle.std.proofs.Common.{◌≡◌, subst, ℕ, true, List, []}
 use Rattle.std.specs.List.{AllByRecursion}
-use Rattle.cl_rules.specs.Values.{value}
 use Rattle.cl_value.specs.Plain.{PlainReply, PlainStart, PlainAct}
-use Rattle.cl_ast.specs.Trees.{meaning}
 use Rattle.cl_ast.specs.declared.statement.Item.{Item}
 use Rattle.cl_model.specs.Machine.{Legal}
 use Rattle.cl_listing.specs.Listing.{in_items}

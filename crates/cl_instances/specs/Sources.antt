@@ -1,5 +1,5 @@
 -- A source and the items that are read from it. (This project.)
-use Rattle.std.specs.Prelude.{◌≡◌, ℕ, true, List, Some}
+use Rattle.std.specs.Prelude.{◌≡◌, ℕ, true, List}
 use Rattle.cl_rules.specs.Syntax.{Derivation, tokens}
 use Rattle.cl_rules.specs.Values.{value}
 use Rattle.cl_value.specs.Plain.{PlainAct}
