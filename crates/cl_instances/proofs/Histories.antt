@@ -43,7 +43,7 @@ module _ (xs : List Item) (none : faults xs ≡ []) (settled : are_settled xs �
   Began Main = Unit {0}
   Began (Lives site live depth) = StartFits xs (Lives site live depth) × (is_of_its_site (signatures_of xs) (record { site = site; ask = Eval live }) ≡ true)
 
-  began_fits : (start : PlainStart) → Began start → StartFits xs start
+  pub began_fits : (start : PlainStart) → Began start → StartFits xs start
   began_fits Main h = tt
   began_fits (Lives site live depth) h = h.0
 

@@ -61,8 +61,8 @@ use Rattle.cl_types.proofs.Rules as rules
 use Rattle.cl_types.proofs.Finding as finding
 use Rattle.cl_types.proofs.Judging.{all_length}
 use Rattle.cl_types.proofs.Clean.{Clean, clean_split, none_found}
-use Rattle.cl_typing.specs.Values.{IsOf, IsOfFound, IsFoundNumber}
-use Rattle.cl_typing.specs.Standing.{FitsAs, Fits, Sees}
+use Rattle.cl_typing.specs.Values.{IsOf, IsOfFound, IsFoundNumber, ValueIs}
+use Rattle.cl_typing.specs.Standing.{FitsAs, Fits, Sees, Scene}
 use Rattle.cl_typing.specs.Requests.{bytes_rule, Beside, ValueSuits, SlotSuits, PartSuits, AskSuits, Allows}
 use Rattle.cl_typing.specs.Steps.{Keeps}
 use Rattle.cl_typing.proofs.Leading.{Paired, keeps_bind, keeps_then, keeps_more, keeps_both, keeps_pure, keeps_trap, keeps_checked, keeps_ask, keeps_if, keeps_each}
@@ -71,13 +71,6 @@ use Rattle.cl_typing.proofs.Operating as operating
 use Rattle.cl_typing.proofs.Places.{Accesses, may_access, accessed, variable_keeps, value_keeps, value_any, number_keeps, store_keeps, place_alone, place_indexed}
 use Rattle.cl_typing.proofs.Inductions as inductions
 use Rattle.cl_typing.proofs.Calling.{GivesResult, CallsRight, Callable, may_call, callable_takes, call_gives, LiveSuits, live_keeps}
-
--- a place of the text: the scopes that stand there, what is known there, and that they agree
-pub record Scene (functions : List Function) (globals : List Declaration) : Type 0 where
-  pub outer : List (List Declaration)
-  pub inner : List Declaration
-  pub known : Known
-  pub sees : Sees functions globals outer inner known
 
 pub all_split : {X : Type 0} (P : X → Type 0) (xs ys : List X) → AllByRecursion P (xs ++ ys) → AllByRecursion P xs × AllByRecursion P ys
 all_split P [] ys h = (tt, h)
@@ -109,9 +102,6 @@ module _ (R : PlainRequest → Type 0) (around : Surroundings) (functions : List
 
   abbrev pub Allowed : Forms → Type 0
   Allowed fs = Allows around.text functions around.site R fs
-
-  abbrev pub ValueIs : Expr → Known → Value → Type 0
-  ValueIs x known v = IsOfFound (judged x known).type v × IsFoundNumber (constant_of x known) v
 
   abbrev pub Suiting : Known → Field → PlainPart → Type 0
   Suiting known f part = PartSuits around.text functions f (field_form f known) part

@@ -25,7 +25,7 @@ use Rattle.cl_types.specs.Found.{block_forms}
 use Rattle.cl_types.proofs.Clean.{Clean}
 use Rattle.cl_typing.specs.Bodies.{is_settled}
 use Rattle.cl_typing.specs.Values.{IsOf}
-use Rattle.cl_typing.specs.Standing.{FitsAs, FitsScope, Fits, Sees, Fresh, function_in}
+use Rattle.cl_typing.specs.Standing.{FitsAs, FitsScope, Fits, Sees, Fresh, function_in, Scene}
 use Rattle.cl_typing.specs.Requests.{Allows}
 use Rattle.cl_typing.specs.Texts.{parameters_declared}
 use Rattle.cl_typing.specs.Steps.{Keeps}
@@ -33,7 +33,6 @@ use Rattle.cl_typing.proofs.Leading.{right_bind, right_then, right_variables, ri
 use Rattle.cl_typing.proofs.Operating.{converted_is}
 use Rattle.cl_typing.proofs.Found.{zero_is}
 use Rattle.cl_typing.proofs.Calling.{GivesResult, CallsRight, named_is}
-use Rattle.cl_typing.proofs.Expressions.{Scene}
 use Rattle.cl_typing.proofs.Statements.{every_block}
 
 -- a function without faults, with what is known at its statements

@@ -22,7 +22,7 @@ use Rattle.cl_listing.specs.Names.{same_name}
 use Rattle.cl_listing.specs.Listing.{in_items, site_at, texts_of, text_number}
 use Rattle.cl_meaning.specs.Variables.{Variables}
 use Rattle.cl_meaning.specs.Operations.{Does}
-use Rattle.cl_meaning.specs.Outer.{functions_of}
+use Rattle.cl_meaning.specs.Outer.{functions_of, outer, size_in}
 use Rattle.cl_meaning.specs.Expressions.{value}
 use Rattle.cl_meaning.specs.Calls.{result_type, function_named, surroundings, calls, run}
 use Rattle.cl_meaning.specs.Process.{fixed, begun, cells_of_globals, main, called_at, part_does, parts_do, live, process, demands}
@@ -34,17 +34,19 @@ use Rattle.cl_types.specs.Items.{main_name, is_empty, has_main, items_walked, kn
 use Rattle.cl_types.specs.Unit.{main_notes, faults}
 use Rattle.cl_types.specs.Findings.{Finding, Forms}
 use Rattle.cl_types.specs.Findings as findings_of
-use Rattle.cl_types.specs.Found.{findings}
+use Rattle.cl_types.specs.Found.{stmt_forms, findings}
 use Rattle.cl_types.proofs.Clean.{Clean, clean_split, clean_unit}
 use Rattle.cl_typing.specs.Bodies.{are_settled}
 use Rattle.cl_typing.specs.Values.{IsOf, IsOfFound, IsFoundNumber}
-use Rattle.cl_typing.specs.Standing.{FitsScope, Fits, function_in}
+use Rattle.cl_typing.specs.Standing.{FitsScope, Fits, function_in, Scene}
 use Rattle.cl_typing.specs.Requests.{AreArguments, Beside, PartSuits, AskSuits, Allows}
 use Rattle.cl_typing.specs.Texts.{outside, parameters_declared, PartFits, StartFits, Becomes, Become, EndFits, AsksAt, IsRequestOf, OutcomeFits}
+use Rattle.cl_typing.specs.Laws.{around, ValuesAreTyped, StatementsKeep, DemandsFit, EvalsFit}
 use Rattle.cl_typing.specs.Steps.{Leads, Keeps}
 use Rattle.cl_typing.proofs.Leading.{leads_more, right_claim, keeps_bind, keeps_then, keeps_more, keeps_pure}
 use Rattle.cl_typing.proofs.Calling.{GivesResult, Takes, CallsRight, named_is}
-use Rattle.cl_typing.proofs.Expressions.{Scene, every_expr}
+use Rattle.cl_typing.proofs.Expressions.{every_expr}
+use Rattle.cl_typing.proofs.Statements.{every_stmt}
 use Rattle.cl_typing.proofs.Functions.{Fine, all_in, run_keeps, calls_keep}
 use Rattle.cl_typing.proofs.Outside.{outer_fits}
 use Rattle.cl_typing.proofs.Texts.{first_seen, items_fine}
@@ -175,17 +177,22 @@ nothing_asked : (text : List ℕ → ℕ) (functions : List Function) (site : �
 nothing_asked text functions site [] = tt
 nothing_asked text functions site (x ∷ fs) = (λ ask suits. tt, nothing_asked text functions site fs)
 
--- In a text without faults, where no fault is noted in an expression, each value that it gives is of the type that is judged of it, and the number
--- of the constant that it is, if it is one; and variables stay at the types by which they are known. It may stand at any depth of processes and of
--- calls.
-pub value_typed : (xs : List Item) → faults xs ≡ [] → are_settled xs ≡ true → (depth more : ℕ) (c : Scene (functions_of xs) (outside xs)) (x : Expr) → Clean (judged x c.known).notes →
-    Keeps (λ q. Unit {0}) (Fits (outside xs) (c.outer ++ c.inner ∷ [])) (λ v. IsOfFound (judged x c.known).type v × IsFoundNumber (constant_of x c.known) v) (value (surroundings (fixed xs depth) (calls (fixed xs depth) more)) x)
-value_typed xs none settled depth more c x clean =
+nothing_fine : (xs : List Item) → faults xs ≡ [] → are_settled xs ≡ true → AllByRecursion (FineHere (λ q. Unit {0}) xs) (functions_of xs)
+nothing_fine xs none settled = all_fine (λ q. Unit {0}) xs none settled (nothing_asked (λ bytes. text_number bytes (texts_of xs)) (functions_of xs) (λ place. site_at place (in_items xs)) (findings xs))
+
+pub values_are_typed : ValuesAreTyped
+values_are_typed xs none settled depth more c x clean =
     let R : PlainRequest → Type 0 = λ q. Unit {0} in
-    let text : List ℕ → ℕ = λ bytes. text_number bytes (texts_of xs) in
-    let site : ℕ → ℕ = λ place. site_at place (in_items xs) in
-    let fine = all_fine R xs none settled (nothing_asked text (functions_of xs) site (findings xs)) in
-    (every_expr R (surroundings (fixed xs depth) (calls (fixed xs depth) more)) (functions_of xs) (outside xs) (calls_here R xs fine depth more) (λ name vs. refl) x c clean (nothing_asked text (functions_of xs) site (expr_forms x c.known))).0
+    let fine = nothing_fine xs none settled in
+    (every_expr R (around xs depth more) (functions_of xs) (outside xs) (calls_here R xs fine depth more) (λ name vs. refl) x c clean
+    (nothing_asked (λ bytes. text_number bytes (texts_of xs)) (functions_of xs) (λ place. site_at place (in_items xs)) (expr_forms x c.known))).0
+
+pub statements_keep : StatementsKeep
+statements_keep xs none settled depth more c context x own alone clean =
+    let R : PlainRequest → Type 0 = λ q. Unit {0} in
+    let fine = nothing_fine xs none settled in
+    (every_stmt R (around xs depth more) (functions_of xs) (outside xs) (calls_here R xs fine depth more) (λ name vs. refl) (size_in (outer xs)) x c context own clean
+    (nothing_asked (λ bytes. text_number bytes (texts_of xs)) (functions_of xs) (λ place. site_at place (in_items xs)) (stmt_forms x c.known))).0 alone
 
 -- ---- demands
 
@@ -215,7 +222,7 @@ outcome_fits xs start (Asks q rest) output (reply ∷ replies) h = by (fits q.as
     by false is k = tt
 
 -- in a text without faults each demand is for an operation of the text, with fields of the types that are judged, or finishes with values of theirs
-pub demands_fit : (xs : List Item) → faults xs ≡ [] → are_settled xs ≡ true → (start : PlainStart) → StartFits xs start → (ticks : ℕ) (replies : List PlainReply) → OutcomeFits xs start (demands xs ticks start replies).outcome
+pub demands_fit : DemandsFit
 demands_fit xs none settled start h ticks replies =
     let allowed = asks_allowed (λ bytes. text_number bytes (texts_of xs)) (λ place. site_at place (in_items xs)) (functions_of xs) (findings xs) in
     outcome_fits xs start (process xs start (begun xs ticks)) [] replies
@@ -250,5 +257,5 @@ asked_fits text site functions [] q ps is h = absurd h
 asked_fits text site functions (x ∷ found) q ps is (inl h) = eval_fits text functions (out-Operation x.0).verb (out-Operation x.0).fields x.1 ps (subst (AskSuits text functions (out-Operation x.0).verb (out-Operation x.0).fields x.1) is h.1)
 asked_fits text site functions (x ∷ found) q ps is (inr h) = asked_fits text site functions found q ps is h
 
-pub evals_fit : (xs : List Item) (q : PlainRequest) (live : List PlainPart) (depth : ℕ) → IsRequestOf xs q → q.ask ≡ Eval live → StartFits xs (Lives q.site live depth)
+pub evals_fit : EvalsFit
 evals_fit xs q live depth h is = asked_fits (λ bytes. text_number bytes (texts_of xs)) (λ place. site_at place (in_items xs)) (functions_of xs) (findings xs) q live is h

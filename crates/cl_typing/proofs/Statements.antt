@@ -71,8 +71,8 @@ use Rattle.cl_types.proofs.Sentences as sentences
 use Rattle.cl_types.proofs.Stating as stating
 use Rattle.cl_types.proofs.Clean.{Clean, clean_split}
 use Rattle.cl_typing.specs.Bodies.{Standing, alone, alone_if_any, all_settled, stands, is_settled}
-use Rattle.cl_typing.specs.Values.{IsOf}
-use Rattle.cl_typing.specs.Standing.{FitsAs, Fits, IsVariable, Sees, Fresh}
+use Rattle.cl_typing.specs.Values.{IsOf, ValueIs}
+use Rattle.cl_typing.specs.Standing.{FitsAs, Fits, IsVariable, Sees, Fresh, Scene}
 use Rattle.cl_typing.specs.Requests.{Allows}
 use Rattle.cl_typing.specs.Steps.{Right, Keeps}
 use Rattle.cl_typing.proofs.Leading.{Paired, right_bind, right_then, right_more, right_pure, right_variables, right_set, keeps_bind, keeps_then, keeps_more, keeps_pure, keeps_trap, keeps_checked, keeps_tick, keeps_print, keeps_ticks_left, keeps_if, keeps_each}
@@ -80,7 +80,7 @@ use Rattle.cl_typing.proofs.Operating.{converted_is}
 use Rattle.cl_typing.proofs.Found.{declared_fits, entered_fits, left_fits, zero_is}
 use Rattle.cl_typing.proofs.Places.{value_any, store_keeps}
 use Rattle.cl_typing.proofs.Calling.{CallsRight}
-use Rattle.cl_typing.proofs.Expressions.{Scene, all_split, place_accesses}
+use Rattle.cl_typing.proofs.Expressions.{all_split, place_accesses}
 use Rattle.cl_typing.proofs.Expressions as typed
 use Rattle.cl_typing.proofs.Declaring.{not_again, declares_new, variable_seen, variable_fresh, inside_sees, entered_sees, entered_fresh}
 use Rattle.cl_typing.proofs.Settled as settled
@@ -175,7 +175,7 @@ module _ (R : PlainRequest → Type 0) (around : Surroundings) (functions : List
   -- ---- expressions
 
   expr_safe : (x : Expr) (c : Here) → Clean (judged x c.known).notes → Allowed (expr_forms x c.known) → Safe c (value around x)
-  expr_safe x c clean allowed = keeps_more R (Kept c) (typed.ValueIs R around functions globals x c.known) (λ v. Unit {0}) (value around x) (typed.every_expr R around functions globals calls_right live_is x c clean allowed).0 (λ v p. tt)
+  expr_safe x c clean allowed = keeps_more R (Kept c) (ValueIs x c.known) (λ v. Unit {0}) (value around x) (typed.every_expr R around functions globals calls_right live_is x c clean allowed).0 (λ v p. tt)
 
   test_safe : (x : Option Expr) (c : Here) → Clean (test_notes x c.known) → Allowed (maybe_forms x c.known) → Safe c (or_true around length_of x)
   unfolding or_true

@@ -1,4 +1,5 @@
 pub mod Bodies
+pub mod Laws
 pub mod Requests
 pub mod Standing
 pub mod Steps

@@ -77,3 +77,10 @@ pub record Sees (functions : List Function) (globals : List Declaration) (outer 
 -- the innermost scope has no name but those that are declared in it
 abbrev pub Fresh : List Declaration → Known → Type 0
 Fresh inner known = (name : Name) → is_declared_here name known ≡ false → first_in name inner None ≡ None
+
+-- a place of the text: the scopes that stand there, what is known there, and that they agree
+pub record Scene (functions : List Function) (globals : List Declaration) : Type 0 where
+  pub outer : List (List Declaration)
+  pub inner : List Declaration
+  pub known : Known
+  pub sees : Sees functions globals outer inner known

@@ -3,10 +3,13 @@ use Rattle.std.specs.Prelude.{◌≡◌, Option, Some, None}
 use Rattle.cl_value.specs.declared.value.Value.{Value}
 use Rattle.cl_value.specs.Matching.{type_of}
 use Rattle.cl_ast.specs.declared.tree.TypeName.{TypeName}
+use Rattle.cl_ast.specs.declared.tree.Expr.{Expr}
 use Rattle.cl_model.specs.Numbers.{number}
 use Rattle.cl_meaning.specs.Operators.{field_type}
 use Rattle.cl_types.specs.declared.declared.Number.{Number}
 use Rattle.cl_types.specs.Numbers.{number_type, number_value}
+use Rattle.cl_types.specs.Declarations.{Known}
+use Rattle.cl_types.specs.Expressions.{judged, constant_of}
 
 -- a value of this type
 abbrev pub IsOf : TypeName → Value → Type 0
@@ -25,3 +28,7 @@ IsNumber n v = IsOf (number_type n) v × (number v ≡ number_value n)
 abbrev pub IsFoundNumber : Option Number → Value → Type 0
 IsFoundNumber None v = Unit {0}
 IsFoundNumber (Some n) v = IsNumber n v
+
+-- the value of an expression where this is known: of the type that is judged of it, and that of the constant that it is, if it is one
+abbrev pub ValueIs : Expr → Known → Value → Type 0
+ValueIs x known v = IsOfFound (judged x known).type v × IsFoundNumber (constant_of x known) v
