@@ -11,6 +11,7 @@ pub mod Outside
 pub mod Places
 pub mod Process
 pub mod Recursions
+mod Rows
 pub mod Settled
 pub mod Statements
 pub mod Texts
