@@ -1,20 +1,12 @@
 -- A source that is read has its declarations in blocks, and no two operations at one place; so where it has no faults, each act of each legal history
 -- of its meaning is an instance of its site's signature.
-use Rattle.std.proofs.Common.{◌≡◌, subst, ℕ, true, List, []}
-use Rattle.std.specs.List.{AllByRecursion}
-use Rattle.cl_value.specs.Plain.{PlainReply, PlainStart, PlainAct}
-use Rattle.cl_ast.specs.declared.statement.Item.{Item}
-use Rattle.cl_model.specs.Machine.{Legal}
+use Rattle.std.proofs.Common.{◌≡◌, subst, true}
 use Rattle.cl_listing.specs.Listing.{in_items}
 use Rattle.cl_listing.specs.Listed.{sites_in}
-use Rattle.cl_meaning.specs.Process.{demands}
-use Rattle.cl_types.specs.Unit.{faults}
 use Rattle.cl_typing.specs.Bodies.{are_settled}
-use Rattle.cl_typing.specs.Texts.{StartFits, OutcomeFits}
 use Rattle.cl_typing.proofs.Derived.{derived_settled}
 use Rattle.cl_typing.proofs.Process.{demands_fit}
 use Rattle.cl_instances.specs.Apart.{are_apart}
-use Rattle.cl_instances.specs.Sources.{IsRead, IsInstance}
 use Rattle.cl_instances.specs.Laws.{SourcesAreSettled, OperationsAreApart, ProcessesAreTyped, ActsAreInstances, ProcessesBeganRight}
 use Rattle.cl_instances.proofs.Histories.{began_fits, history_instances}
 use Rattle.cl_instances.proofs.Order.{derived_apart}

@@ -62,7 +62,7 @@ use Rattle.cl_types.proofs.Finding as finding
 use Rattle.cl_types.proofs.Judging.{all_length}
 use Rattle.cl_types.proofs.Clean.{Clean, clean_split, none_found}
 use Rattle.cl_typing.specs.Values.{IsOf, IsOfFound, IsFoundNumber, ValueIs}
-use Rattle.cl_typing.specs.Standing.{FitsAs, Fits, Sees, Scene}
+use Rattle.cl_typing.specs.Standing.{FitsAs, Fits, Scene}
 use Rattle.cl_typing.specs.Requests.{bytes_rule, Beside, ValueSuits, SlotSuits, PartSuits, AskSuits, Allows}
 use Rattle.cl_typing.specs.Steps.{Keeps}
 use Rattle.cl_typing.proofs.Leading.{Paired, keeps_bind, keeps_then, keeps_more, keeps_both, keeps_pure, keeps_trap, keeps_checked, keeps_ask, keeps_if, keeps_each}

@@ -7,7 +7,6 @@ use Rattle.cl_value.specs.declared.value.Value.{Value}
 use Rattle.cl_value.specs.declared.value.Value.TheVariants.{Int}
 use Rattle.cl_value.specs.Plain.{PlainRequest, PlainReply, Eval, PlainPart, Ready, Call, PlainStart, Main, Lives}
 use Rattle.cl_value.specs.Acts.{fits}
-use Rattle.cl_ast.specs.declared.tree.Expr.{Expr}
 use Rattle.cl_ast.specs.declared.tree.Verb.{Verb}
 use Rattle.cl_ast.specs.declared.tree.Verb.TheVariants as verbs
 use Rattle.cl_ast.specs.declared.tree.Field.{Field}
@@ -23,12 +22,10 @@ use Rattle.cl_listing.specs.Listing.{in_items, site_at, texts_of, text_number}
 use Rattle.cl_meaning.specs.Variables.{Variables}
 use Rattle.cl_meaning.specs.Operations.{Does}
 use Rattle.cl_meaning.specs.Outer.{functions_of, outer, size_in}
-use Rattle.cl_meaning.specs.Expressions.{value}
-use Rattle.cl_meaning.specs.Calls.{result_type, function_named, surroundings, calls, run}
-use Rattle.cl_meaning.specs.Process.{fixed, begun, cells_of_globals, main, called_at, part_does, parts_do, live, process, demands}
+use Rattle.cl_meaning.specs.Calls.{result_type, function_named, calls, run}
+use Rattle.cl_meaning.specs.Process.{fixed, begun, cells_of_globals, main, called_at, part_does, parts_do, live, process}
 use Rattle.cl_types.specs.declared.fault.TypeKind.TheVariants as kinds
 use Rattle.cl_types.specs.Notes.{found}
-use Rattle.cl_types.specs.Expressions.{judged, constant_of}
 use Rattle.cl_types.specs.Fields.{expr_forms}
 use Rattle.cl_types.specs.Items.{main_name, is_empty, has_main, items_walked, known_first}
 use Rattle.cl_types.specs.Unit.{main_notes, faults}
@@ -37,8 +34,8 @@ use Rattle.cl_types.specs.Findings as findings_of
 use Rattle.cl_types.specs.Found.{stmt_forms, findings}
 use Rattle.cl_types.proofs.Clean.{Clean, clean_split, clean_unit}
 use Rattle.cl_typing.specs.Bodies.{are_settled}
-use Rattle.cl_typing.specs.Values.{IsOf, IsOfFound, IsFoundNumber}
-use Rattle.cl_typing.specs.Standing.{FitsScope, Fits, function_in, Scene}
+use Rattle.cl_typing.specs.Values.{IsOf}
+use Rattle.cl_typing.specs.Standing.{FitsScope, Fits, function_in}
 use Rattle.cl_typing.specs.Requests.{AreArguments, Beside, PartSuits, AskSuits, Allows}
 use Rattle.cl_typing.specs.Texts.{outside, parameters_declared, PartFits, StartFits, Becomes, Become, EndFits, AsksAt, IsRequestOf, OutcomeFits}
 use Rattle.cl_typing.specs.Laws.{around, ValuesAreTyped, StatementsKeep, DemandsFit, EvalsFit}
