@@ -1,0 +1,7 @@
+pub mod Histories
+pub mod Marks
+pub mod Numbers
+pub mod Order
+pub mod Requests
+pub mod Rising
+pub mod Sources

@@ -1,0 +1,14 @@
+use Rattle.cl_typing.proofs.Process.{values_are_typed, statements_keep, demands_fit, evals_fit}
+use Rattle.cl_instances.proofs.laws.each_value_is_typed.Goals as goal
+
+pub returns-clause-values : goal.returns-clause-values
+returns-clause-values c = values_are_typed
+
+pub returns-clause-statements : goal.returns-clause-statements
+returns-clause-statements c = statements_keep
+
+pub returns-clause-demands : goal.returns-clause-demands
+returns-clause-demands c = demands_fit
+
+pub returns-clause-starts : goal.returns-clause-starts
+returns-clause-starts c = evals_fit

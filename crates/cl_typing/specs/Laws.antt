@@ -1,0 +1,53 @@
+-- What holds of each text without faults in which declarations stand in blocks. (This project.)
+use Rattle.std.specs.Prelude.{◌≡◌, ℕ, true, false, List, [], ◌∷◌, ◌++◌}
+use Rattle.cl_value.specs.Plain.{PlainRequest, PlainReply, PlainPart, Eval, PlainStart, Lives}
+use Rattle.cl_ast.specs.declared.tree.Expr.{Expr}
+use Rattle.cl_ast.specs.declared.statement.Stmt.{Stmt}
+use Rattle.cl_ast.specs.declared.statement.Item.{Item}
+use Rattle.cl_meaning.specs.Expressions.{Surroundings, value}
+use Rattle.cl_meaning.specs.Statements.{does}
+use Rattle.cl_meaning.specs.Outer.{functions_of, outer, size_in}
+use Rattle.cl_meaning.specs.Calls.{surroundings, calls}
+use Rattle.cl_meaning.specs.Process.{fixed, demands}
+use Rattle.cl_types.specs.declared.context.Context.{Context}
+use Rattle.cl_types.specs.Notes.{Note, Found, Site, Function}
+use Rattle.cl_types.specs.Expressions.{judged}
+use Rattle.cl_types.specs.Statements.{walked}
+use Rattle.cl_types.specs.Unit.{faults}
+use Rattle.cl_typing.specs.Bodies.{stands, are_settled}
+use Rattle.cl_typing.specs.Values.{ValueIs}
+use Rattle.cl_typing.specs.Standing.{Fits, Scene}
+use Rattle.cl_typing.specs.Steps.{Keeps}
+use Rattle.cl_typing.specs.Texts.{outside, StartFits, IsRequestOf, OutcomeFits}
+
+-- no fault is noted
+abbrev pub NoFault : List Note → Type 0
+NoFault [] = Unit {0}
+NoFault (Found fault ∷ notes) = ⊥
+NoFault (Site place ∷ notes) = NoFault notes
+NoFault (Function place ∷ notes) = NoFault notes
+
+-- where a process of this depth may have so many more functions active
+abbrev pub around : List Item → ℕ → ℕ → Surroundings
+around xs depth more = surroundings (fixed xs depth) (calls (fixed xs depth) more)
+
+-- An expression in which no fault is noted gives values of the type that is judged of it, whatever is told; and variables stay at the types by
+-- which they are known.
+abbrev pub ValuesAreTyped : Type 0
+ValuesAreTyped =
+    (xs : List Item) → faults xs ≡ [] → are_settled xs ≡ true → (depth more : ℕ) (c : Scene (functions_of xs) (outside xs)) (x : Expr) → NoFault (judged x c.known).notes →
+    Keeps (λ (q : PlainRequest). Unit {0}) (Fits (outside xs) (c.outer ++ c.inner ∷ [])) (ValueIs x c.known) (value (around xs depth more) x)
+
+-- A statement in which no fault is noted, and which is no declaration, keeps variables at the types by which they are known.
+abbrev pub StatementsKeep : Type 0
+StatementsKeep =
+    (xs : List Item) → faults xs ≡ [] → are_settled xs ≡ true → (depth more : ℕ) (c : Scene (functions_of xs) (outside xs)) (context : Context) (x : Stmt) → (stands x).is_settled ≡ true → (stands x).declares ≡ false →
+    NoFault (walked x context c.known).notes → Keeps (λ (q : PlainRequest). Unit {0}) (Fits (outside xs) (c.outer ++ c.inner ∷ [])) (λ e. Unit {0}) (does (around xs depth more) (size_in (outer xs)) x)
+
+-- A process that begins as it fits asks for operations of the text, with fields that are as they were found, and finishes with values of their types.
+abbrev pub DemandsFit : Type 0
+DemandsFit = (xs : List Item) → faults xs ≡ [] → are_settled xs ≡ true → (start : PlainStart) → StartFits xs start → (ticks : ℕ) (replies : List PlainReply) → OutcomeFits xs start (demands xs ticks start replies).outcome
+
+-- What an `eval` makes begins as it fits.
+abbrev pub EvalsFit : Type 0
+EvalsFit = (xs : List Item) (q : PlainRequest) (live : List PlainPart) (depth : ℕ) → IsRequestOf xs q → q.ask ≡ Eval live → StartFits xs (Lives q.site live depth)
