@@ -10,6 +10,7 @@ pub mod Stepping
 pub mod Fresh
 pub mod Beginning
 pub mod Filling
+pub mod PartFilling
 pub mod Operations
 pub mod SiteNeeds
 pub mod Replies

@@ -3,6 +3,7 @@
 
 mod arithmetic;
 mod asking;
+mod buffers;
 mod calls;
 mod cells;
 mod engine;
@@ -12,12 +13,14 @@ mod numbers;
 mod output;
 mod performing;
 mod printing;
+mod requests;
 mod starting;
 mod step;
 #[cfg(test)]
 mod tests;
 mod values;
 
+pub use buffers::Buffers;
 pub use engine::{Engine, Flow};
 pub use memory::Memory;
 pub use starting::Progress;
