@@ -14,3 +14,5 @@ pub mod PartFilling
 pub mod Operations
 pub mod SiteNeeds
 pub mod Replies
+pub mod Based
+pub mod Calling

@@ -10,3 +10,4 @@ pub mod Parts
 pub mod Buffers
 pub mod Asks
 pub mod Hears
+pub mod Outermost

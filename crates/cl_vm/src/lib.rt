@@ -10,6 +10,7 @@ mod engine;
 mod hearing;
 mod memory;
 mod numbers;
+mod outermost;
 mod output;
 mod performing;
 mod printing;
