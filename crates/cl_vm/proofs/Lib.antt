@@ -16,3 +16,4 @@ pub mod SiteNeeds
 pub mod Replies
 pub mod Based
 pub mod Calling
+pub mod LiveFields

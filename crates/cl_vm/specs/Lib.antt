@@ -11,3 +11,4 @@ pub mod Buffers
 pub mod Asks
 pub mod Hears
 pub mod Outermost
+pub mod Processes

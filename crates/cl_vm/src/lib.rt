@@ -15,13 +15,16 @@ mod output;
 mod performing;
 mod printing;
 mod requests;
+mod resuming;
 mod starting;
 mod step;
 #[cfg(test)]
 mod tests;
 mod values;
+mod vm;
 
 pub use buffers::Buffers;
 pub use engine::{Engine, Flow};
 pub use memory::Memory;
 pub use starting::Progress;
+pub use vm::{Demand, Vm};
