@@ -87,6 +87,7 @@ module _ (p : PlainProgram) (valid : Valid p) (goes : GoesByInstructions) (e : E
   by_read (Ok fields) r (Ok u) b (may, request, stands, same) = (
     request,
     stands,
+    ap (λ (q : PlainRequest). q.site) same,
     signature,
     is,
     λ behind replies.

@@ -1,10 +1,10 @@
 -- How a machine stands for a process: what it is told, and what it comes to. (This project.)
-use Rattle.std.specs.Prelude.{◌≡◌, ℕ, zero, suc, ◌+◌, ◌-◌, ◌≤◌, List, [], ◌∷◌, ◌++◌, length, drop, map, slice_get, Option, Some, None, Ok, IsTrue}
+use Rattle.std.specs.Prelude.{◌≡◌, ℕ, zero, suc, ◌+◌, ◌-◌, ◌<◌, ◌≤◌, List, [], ◌∷◌, ◌++◌, length, drop, map, slice_get, Option, Some, None, Ok, IsTrue}
 use Rattle.cl_value.specs.Acts.{fits}
 use Rattle.cl_value.specs.LiveViews.{plain_part}
 use Rattle.cl_value.specs.Plain.{PlainPart, Ready, Call, PlainReply, PlainRequest, PlainStart, Main, Lives, Land}
 use Rattle.cl_value.specs.Room.{Room, HasRoom}
-use Rattle.cl_value.specs.Views.{plain_request}
+use Rattle.cl_value.specs.Views.{plain_ask, plain_request}
 use Rattle.cl_value.specs.declared.process.Reply.{Reply}
 use Rattle.cl_value.specs.declared.process.Reply.TheVariants as replied
 use Rattle.cl_value.specs.declared.request.Ask.{Ask}
@@ -15,7 +15,7 @@ use Rattle.cl_model.specs.Demand.{Wants, Finishes, Traps}
 use Rattle.cl_model.specs.Doing.{Stops}
 use Rattle.cl_sig.specs.Signatures.{PlainSignature}
 use Rattle.cl_code.specs.Plain.{PlainProgram}
-use Rattle.cl_code.specs.Process.{CodeDemand, Goes, code_demand, code_demand_of, end_after}
+use Rattle.cl_code.specs.Process.{CodeDemand, Goes, code_demand, code_demand_of, end_after, type_given}
 use Rattle.cl_code.specs.Requests.{depth_of}
 use Rattle.cl_code.specs.Starts.{start_fits}
 use Rattle.cl_vm.specs.Asks.{at_operation, count_at}
@@ -23,7 +23,7 @@ use Rattle.cl_vm.specs.Begins.{IsFresh}
 use Rattle.cl_vm.specs.Buffers.{IsReady}
 use Rattle.cl_vm.specs.Engine.{Behind, onward}
 use Rattle.cl_vm.specs.Hears.{plain_reply}
-use Rattle.cl_vm.specs.Outermost.{ArgumentsFit, IsSound, between, came}
+use Rattle.cl_vm.specs.Outermost.{ArgumentsFit, IsFine, IsIdle, IsSound, between, came, entering}
 use Rattle.cl_vm.specs.Parts.{widest_of}
 use Rattle.cl_vm.specs.declared.engine.Engine.{Engine}
 use Rattle.cl_vm.specs.declared.starting.Progress.{Progress}
@@ -140,7 +140,7 @@ Stood p demanded demands.Op vm =
     IsHeld p 1 vm
     × SoundAt p (reached.Op vm.site) vm
     × ((replies : List PlainReply) → demanded replies ≡ came_of p (reached.Op vm.site) vm replies)
-    × (request : Request) × (request_of vm ≡ Some request)
+    × (request : Request) × (request_of vm ≡ Some request) × (request.site ≡ vm.site)
     × (signature : PlainSignature) × (slice_get p.sites vm.site ≡ Some signature)
     × ((behind : Behind) (replies : List PlainReply) → onward p behind vm.engine replies ≡ at_operation p behind vm.engine (count_at p vm.site signature) signature (plain_request request) replies)
 Stood p demanded demands.Finished vm =
@@ -158,6 +158,11 @@ abbrev pub parts_in : PlainStart → List PlainPart
 parts_in Main = []
 parts_in (Lives site live depth) = live
 
+-- a live tuple has fields
+abbrev pub HasParts : PlainStart → ℕ → Type 0
+HasParts Main count = Unit {0}
+HasParts (Lives site live depth) count = 0 < count
+
 -- it has done nothing
 pub record IsNew (p : PlainProgram) (steps : ℕ) (start : PlainStart) (vm : Vm) : Type 0 where
   pub fits : IsTrue (start_fits p start)
@@ -165,6 +170,7 @@ pub record IsNew (p : PlainProgram) (steps : ℕ) (start : PlainStart) (vm : Vm)
   pub held : IsHeld p 0 vm
   pub origin : vm.origin ≡ origin_of start
   pub parts : map plain_part vm.fields.items ≡ parts_in start
+  pub some : HasParts start (length vm.fields.items)
   pub next : vm.next ≡ 0
   pub values : vm.values.items ≡ []
 
@@ -182,3 +188,28 @@ HasBeenTold p steps start (Some replies) vm = HasHeard p steps start replies vm
 -- the machine stands for a process of the program with this past
 abbrev pub StandsFor : PlainProgram → Past → Vm → Type 0
 StandsFor p past vm = HasBeenTold p past.steps past.start past.told vm
+
+-- ---- its beginning, and a reply
+
+-- what is demanded where process 0 is to enter the main function
+abbrev pub before_main : PlainProgram → Vm → List PlainReply → CodeDemand
+before_main p vm replies = entering p p.main [] (type_given (slice_get p.functions p.main)) [] [] vm.engine replies
+
+-- its globals are claimed, and it is to enter the main function or to do its first field
+abbrev pub EntersAt : Option ℕ → PlainProgram → (List PlainReply → CodeDemand) → Vm → Type 0
+EntersAt None p demanded vm = (vm.fields.items ≡ []) × (vm.values.items ≡ []) × ((replies : List PlainReply) → demanded replies ≡ before_main p vm replies)
+EntersAt (Some site) p demanded vm = (vm.next < length vm.fields.items) × ((replies : List PlainReply) → demanded replies ≡ before_field p vm replies)
+
+pub record HasClaimed (p : PlainProgram) (demanded : List PlainReply → CodeDemand) (vm : Vm) : Type 0 where
+  pub held : IsHeld p 0 vm
+  pub idle : IsIdle p vm.engine
+  pub fine : IsFine demanded
+  pub enters : EntersAt vm.origin p demanded vm
+
+-- the reply fits the standing request
+abbrev pub FitsRequest : PlainReply → Vm → Type 0
+FitsRequest told vm = (request : Request) × (request_of vm ≡ Some request) × IsTrue (fits (plain_ask request.ask) told)
+
+-- what is demanded behind one reply more
+abbrev pub behind_reply : PlainReply → (List PlainReply → CodeDemand) → List PlainReply → CodeDemand
+behind_reply told demanded replies = demanded (told ∷ replies)

@@ -14,8 +14,7 @@ use Rattle.cl_vm.proofs.vm.Vm.finish.Goals as goal
 pub returns-clause-stood : goal.returns-clause-stood
 returns-clause-stood c p =
     let vm = c.args.self.now in
-    let (tuple, stands, items) = c.land.ensures in
-    (
+    let (tuple, stands, items) = c.land.ensures in (
       tuple,
       stands ∙ ap (λ (n : ℕ). Some (record { site = n; ask = asks.Land tuple })) c.landing_site-site.ensures,
       λ replies.

@@ -25,7 +25,7 @@ returns-then-self-len-clause-stood c =
     let p = plain_program c.args.program.now in
     let vm = c.fields.self in
     let same : (replies : List PlainReply) → came_of p c.args.first c.args.self.now replies ≡ before_field p (record vm { values = c.push.new.self }) replies = λ replies.
-        c.fields.invariant.leads replies
-        ∙ ap (λ (x : Progress). came_of p x vm replies) c.in-Finished.is
-        ∙ ap (λ (vs : List Value). between p vm.engine.depth (rest_of vm) vs vm.engine replies) (sym c.push.ensures.items) in
+    c.fields.invariant.leads replies
+    ∙ ap (λ (x : Progress). came_of p x vm replies) c.in-Finished.is
+    ∙ ap (λ (vs : List Value). between p vm.engine.depth (rest_of vm) vs vm.engine replies) (sym c.push.ensures.items) in
     subst (λ (d : List PlainReply → CodeDemand). Stood p d c.finish.result c.finish.new.self) (sym (fun_ext same)) (c.finish.ensures.stood p)
