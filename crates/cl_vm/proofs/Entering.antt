@@ -185,5 +185,5 @@ module _ (p : PlainProgram) (valid : Valid p) (goes : GoesByInstructions) (e : E
         roomy = entered_roomy runs.roomy low high (call_fits f past h) small size room;
       })
   call_runs (flows.Stop t) new h runs low high can = tt
-  call_runs (flows.Over n) new h runs low high can = tt
+  call_runs (flows.Over n) new h runs low high can = absurd h
   call_runs (flows.Ask site) new h runs low high can = absurd h

@@ -8,8 +8,14 @@ pub mod Pieces
 pub mod Showing
 pub mod Stepping
 pub mod Fresh
-pub mod Beginning
 pub mod Filling
+pub mod PartFilling
 pub mod Operations
 pub mod SiteNeeds
 pub mod Replies
+pub mod Based
+pub mod Calling
+pub mod LiveFields
+pub mod Begun
+pub mod Resumed
+pub mod StartFits

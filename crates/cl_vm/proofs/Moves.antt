@@ -119,7 +119,7 @@ module _ (p : PlainProgram) (valid : Valid p) (goes : GoesByInstructions) (e : E
         roomy = near_roomy new near runs.roomy;
       }
   acts_runs (flows.Stop t) new h runs = tt
-  acts_runs (flows.Over n) new h runs = tt
+  acts_runs (flows.Over n) new h runs = absurd h
   acts_runs (flows.Ask site) new h runs = absurd h
 
 -- ---- ticks
@@ -184,7 +184,7 @@ module _ (p : PlainProgram) (valid : Valid p) (goes : GoesByInstructions) (e : E
         roomy = ticked_roomy runs.roomy;
       })
   tick_runs (flows.Stop t) new h runs = tt
-  tick_runs (flows.Over n) new h runs = tt
+  tick_runs (flows.Over n) new h runs = absurd h
   tick_runs (flows.Ask site) new h runs = absurd h
 
 -- ---- a function is left
@@ -243,6 +243,23 @@ module _ (p : PlainProgram) (valid : Valid p) (goes : GoesByInstructions) (mid :
     roomy = left_roomy frame frames is runs.roomy;
   }
 
+-- there is as much room without a number
+unpushed_roomy : (p : PlainProgram) (n : ℤ) (place : ℕ) (e : Engine) → IsRoomy p (record e { memory = with_pushed n e.memory; place = place }) → IsRoomy p e
+unpushed_roomy p n place e roomy = record {
+  highest = roomy.highest;
+  most = roomy.most;
+  stacks = roomy.stacks;
+  temporaries = roomy.temporaries;
+  low = roomy.low;
+  space = roomy.space;
+  frames = roomy.frames;
+  total = roomy.total;
+  limit = roomy.limit;
+  sized = roomy.sized;
+  output = roomy.output;
+  cells = roomy.cells;
+}
+
 -- an engine with a number more, before an instruction
 module _ (p : PlainProgram) (valid : Valid p) (goes : GoesByInstructions) (e : Engine) (here : slice_get p.code e.place ≡ Some Return) where
   before : (n : ℤ) (mid : Engine) → record e { place = suc e.place } ≡ with_number n mid → e ≡ record mid { memory = with_pushed n mid.memory; place = e.place }
@@ -258,6 +275,6 @@ module _ (p : PlainProgram) (valid : Valid p) (goes : GoesByInstructions) (e : E
 
   pub returns_runs : (flow : Flow) (new : Engine) → Returns (record e { place = suc e.place }) flow new → Runs p e → RunsOn p flow new
   returns_runs flows.On new (n, mid, frame, frames, was, is, to) runs = subst (λ (x : Engine). Runs p x) (sym to) (return_runs p valid goes mid n e.place here frame frames is (subst (λ (x : Engine). Runs p x) (before n mid was) runs))
-  returns_runs (flows.Over n) new h runs = tt
+  returns_runs (flows.Over n) new (was, is) runs = (unpushed_roomy p n e.place new (subst (λ (x : Engine). IsRoomy p x) (before n new was) runs.roomy), is)
   returns_runs (flows.Stop t) new h runs = tt
   returns_runs (flows.Ask site) new h runs = absurd h

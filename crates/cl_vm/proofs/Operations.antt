@@ -1,14 +1,11 @@
 -- What an operation asks for, and what follows it.
 use Rattle.std.proofs.Common.{◌≡◌, ℕ, suc, ◌≤◌, Bool, true, false, List, [], ◌∷◌, length, Some, refl, sym, ap, ◌∙◌, subst, drop, append-nil}
-use Rattle.std.specs.Prelude.{ℤ, slice_get, if◌then◌else◌, Result, Ok, Err, IfOk}
+use Rattle.std.specs.Prelude.{ℤ, slice_get, if◌then◌else◌, Result, Ok, Err}
 use Rattle.cl_value.specs.declared.process.Trap.{Trap}
 use Rattle.cl_value.specs.declared.process.Trap.TheVariants.{EvalDepth}
 use Rattle.cl_value.specs.Plain.{PlainAsk, PlainReply, PlainRequest}
 use Rattle.cl_model.specs.Doing.{Checked, Steps, Gives, Asks, Stops, State, then_do, ◌>>=◌, pure, ask, trap, checked}
 use Rattle.cl_sig.specs.Signatures.{PlainSignature}
-use Rattle.cl_sig.specs.declared.signature.Kind.{Kind}
-use Rattle.cl_sig.specs.declared.signature.Kind.TheVariants as kinds
-use Rattle.cl_code.specs.Rules.{is_eval}
 use Rattle.cl_code.specs.Plain.{PlainProgram}
 use Rattle.cl_code.specs.Valid.{Valid}
 use Rattle.cl_code.specs.Laws.{GoesByInstructions}
@@ -22,9 +19,8 @@ use Rattle.cl_code.specs.Machine.{Cells, Does, Stack, Way, On, effect, follow, p
 use Rattle.cl_code.specs.Sites.{Field, Place, places_at, fields_of, asked, told}
 use Rattle.cl_code.specs.declared.instr.Instr.TheVariants as instrs
 use Rattle.cl_vm.specs.Engine.{Behind, state_of, onward}
-use Rattle.cl_vm.specs.Asking.{Asked}
-use Rattle.cl_vm.specs.declared.asking.Asking.{Asking}
-use Rattle.cl_vm.specs.declared.asking.Asking.TheVariants as asking
+use Rattle.cl_vm.specs.Buffers as buffers
+use Rattle.cl_vm.specs.declared.buffers.Buffers.{Buffers}
 use Rattle.cl_vm.specs.Asks.{count_at, numbers_at, told_engine, at_operation, AsksFor}
 use Rattle.cl_vm.specs.declared.engine.Engine.{Engine}
 use Rattle.cl_vm.proofs.Moves.{opened}
@@ -87,28 +83,23 @@ module _ (p : PlainProgram) (valid : Valid p) (goes : GoesByInstructions) (e : E
 
   -- ---- by what was built
 
-  plain_asks : (kind : Kind) (depth : ℕ) → is_eval kind ≡ false → may_ask kind depth ≡ true
-  plain_asks kinds.Out depth plain = refl
-  plain_asks kinds.In depth plain = refl
-  plain_asks kinds.Rd depth plain = refl
-  plain_asks kinds.Inp depth plain = refl
-  plain_asks kinds.Rdp depth plain = refl
-  plain_asks kinds.Eval depth plain = absurd cc
-
-  by_read : is_eval signature.kind ≡ false → (read : Checked (List Field)) → fields_of p all ns ≡ read → (given : Asking) → Asked signature.kind read given → AsksFor p site e given
-  by_read plain (Ok fields) r (asking.Wants a) same = (
+  by_read : (read : Checked (List Field)) → fields_of p all ns ≡ read → (given : Result (Unit {0}) Trap) (b : Buffers) → buffers.Stands e.depth signature.kind site read given b → AsksFor p site e given b
+  by_read (Ok fields) r (Ok u) b (may, request, stands, same) = (
+    request,
+    stands,
+    ap (λ (q : PlainRequest). q.site) same,
     signature,
     is,
     λ behind replies.
-        asks_at fields r (plain_asks signature.kind e.depth plain) behind replies
-        ∙ ap (λ (o : PlainAsk). at_operation p behind e count signature (record { site = site; ask = o }) replies) (sym same),
+        asks_at fields r may behind replies
+        ∙ ap (λ (q : PlainRequest). at_operation p behind e count signature q replies) (sym same),
   )
-  by_read plain (Ok fields) r (asking.Traps u) same = absurd same
-  by_read plain (Err t) r (asking.Wants a) same = absurd same
-  by_read plain (Err t) r (asking.Traps u) same = λ behind replies. field_stops t r behind replies ∙ ap (λ (v : Trap). code_demand_of (Stops v) e.output.items replies) same
+  by_read (Ok fields) r (Err t) b (may, same) = λ behind replies. depth_stops fields r may behind replies ∙ ap (λ (v : Trap). code_demand_of (Stops v) e.output.items replies) (sym same)
+  by_read (Err t) r (Ok u) b same = absurd same
+  by_read (Err t) r (Err v) b same = λ behind replies. field_stops t r behind replies ∙ ap (λ (v : Trap). code_demand_of (Stops v) e.output.items replies) same
 
-  pub asks_for : is_eval signature.kind ≡ false → (given : Asking) → Asked signature.kind (fields_of p all ns) given → AsksFor p site e given
-  asks_for plain given same = by_read plain (fields_of p all ns) refl given same
+  pub asks_for : (given : Result (Unit {0}) Trap) (b : Buffers) → buffers.Stands e.depth signature.kind site (fields_of p all ns) given b → AsksFor p site e given b
+  asks_for given b same = by_read (fields_of p all ns) refl given b same
 
   -- ---- behind a reply
 
@@ -173,8 +164,3 @@ module _ (p : PlainProgram) (valid : Valid p) (goes : GoesByInstructions) (e : E
 
     pub runs_behind : Runs p (told_engine count signature reply e)
     runs_behind = by_fields (fields_of p all ns) refl (may_ask signature.kind e.depth) refl
-
--- of what there may be, one thing follows another
-pub if_ok : {A E : Type 0} (P Q : A → Type 0) → ((a : A) → P a → Q a) → (r : Result A E) → IfOk r P → IfOk r Q
-if_ok P Q go (Ok a) h = go a h
-if_ok P Q go (Err t) h = tt

@@ -123,7 +123,7 @@ module _ (p : PlainProgram) (valid : Valid p) (goes : GoesByInstructions) (e : E
   pub shown_runs : (flow : Flow) (new : Engine) → Shown bytes rest past flow new → Runs p e → RunsOn p flow new
   shown_runs flows.On new (added, few, cap, to) runs = subst (λ (x : Engine). Runs p x) (sym to) (print_runs new.output added few (let r = runs.roomy.output.0 in omega (arith, r, cap)) runs)
   shown_runs (flows.Stop t) new h runs = tt
-  shown_runs (flows.Over n) new h runs = tt
+  shown_runs (flows.Over n) new h runs = absurd h
   shown_runs (flows.Ask site) new h runs = absurd h
 
   pub shown_falls : length e.memory.frames ≤ 255 → (flow : Flow) (new : Engine) → Shown bytes rest past flow new → Falls p e flow new

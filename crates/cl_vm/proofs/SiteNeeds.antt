@@ -1,5 +1,5 @@
 -- What an operation of a valid program finds.
-use Rattle.std.proofs.Common.{◌≡◌, ◌+◌, ◌-◌, ℕ, ◌<◌, ◌≤◌, true, false, List, [], ◌∷◌, length, Option, Some, None, refl, sym, ap, ◌∙◌, subst, arith, ltb-true, leb-true, true≢false}
+use Rattle.std.proofs.Common.{◌≡◌, ◌+◌, ◌-◌, ℕ, zero, suc, ◌<◌, ◌≤◌, true, false, List, [], ◌∷◌, length, Option, Some, None, refl, sym, ap, ◌∙◌, subst, arith, ltb-true, leb-true, true≢false}
 use Rattle.std.specs.Prelude.{slice_get, nat_le}
 use Rattle.std.specs.List.{list_all}
 use Rattle.std.proofs.lemmas.Option.{slice_get_within}
@@ -8,11 +8,12 @@ use Rattle.cl_sig.specs.Signatures.{PlainSignature}
 use Rattle.cl_sig.specs.declared.signature.Kind.{Kind}
 use Rattle.cl_sig.specs.declared.signature.Mark.{Mark}
 use Rattle.cl_sig.specs.declared.signature.Mark.TheVariants as marks
-use Rattle.cl_code.specs.Plain.{PlainProgram}
+use Rattle.cl_code.specs.Plain.{PlainFunction, PlainProgram}
+use Rattle.cl_value.specs.declared.value.FieldType.{FieldType}
 use Rattle.cl_code.specs.Reach.{takes_at, gives_or_none}
 use Rattle.cl_code.specs.Rules.{is_some_up_to, is_eval, may_receive, call_is_right, field_is_right, site_is_right}
-use Rattle.cl_code.specs.Sites.{Place, places, places_at, none_or, takes, gives}
-use Rattle.cl_code.specs.Valid.{Valid, place_is_typed, site_is_typed}
+use Rattle.cl_code.specs.Sites.{Place, parameters_or_none, places, places_at, none_or, takes, gives}
+use Rattle.cl_code.specs.Valid.{Valid, function_is_short, is_short, place_is_typed, site_is_typed}
 use Rattle.cl_code.specs.Laws.{HeightsAreMet, StacksAreLow, GoesByInstructions}
 use Rattle.cl_code.specs.declared.instr.Instr.TheVariants.{Perform}
 use Rattle.cl_code.proofs.Fine.{below}
@@ -20,7 +21,6 @@ use Rattle.cl_code.proofs.Flow.{reaches_by, rule_3_at}
 use Rattle.cl_code.proofs.Tests.{left, right, has_of}
 use Rattle.cl_vm.specs.Asking.{is_evaluated, is_receivable}
 use Rattle.cl_vm.specs.Asks.{count_at}
-use Rattle.cl_vm.specs.Counting.{count_of_marks}
 use Rattle.cl_vm.specs.Runs.{Runs}
 use Rattle.cl_vm.specs.declared.engine.Engine.{Engine}
 use Rattle.cl_vm.proofs.Needs.{needs_met, code_is_short}
@@ -61,12 +61,6 @@ module _ (p : PlainProgram) where
   receivable_of (mark ∷ ms) [] h = and_from _ _ (mark_receivable mark None (left _ _ h)) (receivable_of ms [] (right _ _ h))
   receivable_of (mark ∷ ms) (call ∷ calls) h = and_from _ _ (mark_receivable mark call (left _ _ h)) (receivable_of ms calls (right _ _ h))
 
-  pub count_same : (ms : List Mark) → takes p (places ms []) ≡ count_of_marks ms
-  count_same [] = refl
-  count_same (marks.Constant v ∷ ms) = let rest = count_same ms in omega (arith, rest)
-  count_same (marks.Formal type ∷ ms) = let rest = count_same ms in omega (arith, rest)
-  count_same (marks.Actual type ∷ ms) = let rest = count_same ms in omega (arith, rest)
-
 -- ---- a site
 
 module _ (p : PlainProgram) (valid : Valid p) (heights : HeightsAreMet) (stacks : StacksAreLow) (goes : GoesByInstructions) (e : Engine) (runs : Runs p e) (site : ℕ) (here : slice_get p.code e.place ≡ Some (Perform site)) where
@@ -101,11 +95,21 @@ module _ (p : PlainProgram) (valid : Valid p) (heights : HeightsAreMet) (stacks 
     pub plain_places : is_eval signature.kind ≡ false → places_at p site signature ≡ places signature.fields []
     plain_places plain = uncalled p signature.kind plain signature.fields (none_or (slice_get p.calls site)) fields_right
 
-    pub plain_count : is_eval signature.kind ≡ false → count_at p site signature ≡ count_of_marks signature.fields
-    plain_count plain = ap (λ all. takes p all) (plain_places plain) ∙ count_same p signature.fields
-
     pub room_there : (length e.memory.stack - count_at p site signature) + gives signature ≤ e.memory.space
     room_there = subst (λ o. (length e.memory.stack - takes_at p site o) + gives_or_none o ≤ e.memory.space) is (needs_met p valid heights stacks goes e runs (Perform site) here).space
 
   pub place_short : e.place + 1 < 4294967296 + 1
   place_short = let a = slice_get_within p.code e.place (Perform site) here in let b = code_is_short p valid in omega (arith, a, b)
+
+-- ---- counting
+
+pub functions_short : (p : PlainProgram) → Valid p → list_all function_is_short p.functions ≡ true
+functions_short p valid = left _ _ (right (is_short p.functions) _ (right (is_short p.heights) _ (right (is_short p.code) _ valid.short)))
+
+short_at : (fs : List PlainFunction) (k : ℕ) → list_all function_is_short fs ≡ true → length (parameters_or_none (slice_get fs k)) < 4294967296
+short_at [] k h = omega arith
+short_at (f ∷ fs) zero h = ltb-true (length f.parameters) 4294967296 (right (is_short f.name) _ (left _ _ h))
+short_at (f ∷ fs) (suc k) h = short_at fs k (right _ _ h)
+
+pub parameters_short : (fs : List PlainFunction) (k : ℕ) (types : List FieldType) → types ≡ parameters_or_none (slice_get fs k) → list_all function_is_short fs ≡ true → length types < 4294967296
+parameters_short fs k types e h = let long = ap (λ (ts : List FieldType). length ts) e in let few = short_at fs k h in omega (arith, long, few)

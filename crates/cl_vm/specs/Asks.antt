@@ -1,20 +1,20 @@
 -- What an engine stands for at an operation. (This project.)
-use Rattle.std.specs.Prelude.{◌≡◌, ℕ, suc, false, if◌then◌else◌, List, [], ◌∷◌, reverse, take, drop, slice_get, Some, ℤ}
+use Rattle.std.specs.Prelude.{◌≡◌, ℕ, suc, if◌then◌else◌, List, [], ◌∷◌, reverse, take, drop, slice_get, Some, ℤ, Result, Ok, Err}
 use Rattle.cl_value.specs.Plain.{PlainRequest, PlainReply}
 use Rattle.cl_value.specs.Acts.{fits}
-use Rattle.cl_value.specs.Views.{plain_ask}
+use Rattle.cl_value.specs.Views.{plain_request}
+use Rattle.cl_value.specs.declared.process.Trap.{Trap}
+use Rattle.cl_value.specs.declared.request.Request.{Request}
 use Rattle.cl_model.specs.Demand.{Wants, Misfit}
 use Rattle.cl_model.specs.Doing.{Stops}
 use Rattle.cl_sig.specs.Signatures.{PlainSignature}
 use Rattle.cl_code.specs.Plain.{PlainProgram}
 use Rattle.cl_code.specs.Machine.{pushed}
 use Rattle.cl_code.specs.Process.{Goes, CodeDemand, code_demand_of}
-use Rattle.cl_code.specs.Rules.{is_eval}
 use Rattle.cl_code.specs.declared.instr.Instr.TheVariants.{Perform}
 use Rattle.cl_code.specs.Sites.{places_at, takes, told}
 use Rattle.cl_vm.specs.Engine.{Behind, onward}
-use Rattle.cl_vm.specs.declared.asking.Asking.{Asking}
-use Rattle.cl_vm.specs.declared.asking.Asking.TheVariants as asking
+use Rattle.cl_vm.specs.declared.buffers.Buffers.{Buffers}
 use Rattle.cl_vm.specs.declared.engine.Engine.{Engine}
 
 -- how many numbers an operation takes
@@ -39,13 +39,9 @@ at_operation p behind e count signature q (reply ∷ replies) =
 abbrev pub StandsAt : PlainProgram → ℕ → Engine → Type 0
 StandsAt p site e = slice_get p.code e.place ≡ Some (Perform site)
 
--- what it comes to at this operation: a request, or a trap
-abbrev pub AsksFor : PlainProgram → ℕ → Engine → Asking → Type 0
-AsksFor p site e (asking.Wants ask) =
-    (signature : PlainSignature) × (slice_get p.sites site ≡ Some signature)
-    × ((behind : Behind) (replies : List PlainReply) → onward p behind e replies ≡ at_operation p behind e (count_at p site signature) signature (record { site = site; ask = plain_ask ask }) replies)
-AsksFor p site e (asking.Traps t) = (behind : Behind) (replies : List PlainReply) → onward p behind e replies ≡ code_demand_of (Stops t) e.output.items replies
-
--- an operation that isn't an `eval`
-abbrev pub IsPlain : PlainProgram → ℕ → Type 0
-IsPlain p site = (signature : PlainSignature) → slice_get p.sites site ≡ Some signature → is_eval signature.kind ≡ false
+-- what it comes to at this operation: a request that stands in the buffers, or a trap
+abbrev pub AsksFor : PlainProgram → ℕ → Engine → Result (Unit {0}) Trap → Buffers → Type 0
+AsksFor p site e (Ok u) b =
+    (request : Request) × (b.request ≡ Some request) × (request.site ≡ site) × (signature : PlainSignature) × (slice_get p.sites site ≡ Some signature)
+    × ((behind : Behind) (replies : List PlainReply) → onward p behind e replies ≡ at_operation p behind e (count_at p site signature) signature (plain_request request) replies)
+AsksFor p site e (Err t) b = (behind : Behind) (replies : List PlainReply) → onward p behind e replies ≡ code_demand_of (Stops t) e.output.items replies

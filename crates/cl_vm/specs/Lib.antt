@@ -6,6 +6,9 @@ pub mod Printing
 pub mod Begins
 pub mod Small
 pub mod Asking
+pub mod Parts
+pub mod Buffers
 pub mod Asks
-pub mod Counting
 pub mod Hears
+pub mod Outermost
+pub mod Processes

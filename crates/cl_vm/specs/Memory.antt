@@ -32,6 +32,14 @@ empty_memory globals cells numbers functions =
 abbrev pub with_more : ℕ → Memory → Memory
 with_more count m = record m { frame = m.frame ++ replicate count (pos 0); cell_room = m.cell_room - count }
 
+-- the frame has these cells more
+abbrev pub with_added : List ℤ → Memory → Memory
+with_added ns m = record m { frame = m.frame ++ ns; cell_room = m.cell_room - length ns }
+
+-- the frame has no cells, and no number is left
+abbrev pub with_none : Memory → Memory
+with_none m = record m { frame = []; stack = []; cell_room = m.cell_room + length m.frame }
+
 abbrev pub with_pushed : ℤ → Memory → Memory
 with_pushed n m = record m { stack = n ∷ m.stack }
 

@@ -72,11 +72,28 @@ pub record Runs (p : PlainProgram) (e : Engine) : Type 0 where
   pub reached : Reached p e.depth (position_of e)
   pub roomy : IsRoomy p e
 
--- it goes on where it leads to an instruction
+-- it goes on where it leads to an instruction, and there is room again where the outermost function gave its result
 abbrev pub RunsOn : PlainProgram → Flow → Engine → Type 0
 RunsOn p flows.On e = Runs p e
 RunsOn p (flows.Ask site) e = Runs p e
+RunsOn p (flows.Over n) e = IsRoomy p e × (e.memory.frames ≡ [])
 RunsOn p _ e = Unit {0}
+
+-- how many cells the functions claimed that are waited for
+abbrev pub claims : List Frame → ℕ
+claims [] = 0
+claims (f ∷ fs) = f.claimed + claims fs
+
+-- it has this depth, and its outermost function claimed so many cells: they and those of the globals are in use without the others
+pub record IsBased (deep claimed : ℕ) (e : Engine) : Type 0 where
+  pub depth : e.depth ≡ deep
+  pub base : ℕ
+  pub cells : e.cells ≡ base + claims e.memory.frames
+  pub enough : length e.memory.globals + claimed ≤ base
+
+abbrev pub BasedOn : ℕ → ℕ → Flow → Engine → Type 0
+BasedOn depth claimed (flows.Stop t) e = Unit {0}
+BasedOn depth claimed _ e = IsBased depth claimed e
 
 -- how far it is from its end: by the ticks that are left, whether it stands at a tick, the frames, and the code ahead
 abbrev pub tick_bit : PlainProgram → ℕ → ℕ
@@ -96,6 +113,7 @@ Falls p old _ new = Unit {0}
 pub record Stepped (p : PlainProgram) (old : Engine) (flow : Flow) (new : Engine) : Type 0 where
   pub led : Led p old flow new
   pub runs : RunsOn p flow new
+  pub based : (depth claimed : ℕ) → IsBased depth claimed old → BasedOn depth claimed flow new
   pub falls : Falls p old flow new
 
 -- as much is demanded of both
@@ -108,6 +126,7 @@ pub record Ran (p : PlainProgram) (old : Engine) (flow : Flow) (new : Engine) : 
   pub leads : Leads p old last
   pub led : Led p last flow new
   pub runs : RunsOn p flow new
+  pub based : (depth claimed : ℕ) → IsBased depth claimed old → BasedOn depth claimed flow new
   pub stops : flow ≡ flows.On → ⊥
 
 -- ---- what an instruction needs

@@ -10,8 +10,8 @@ use crate::Memory;
 use cl_sig::{Kind, Mark};
 use cl_value::{Reply, Value};
 
-// A value as a number; that of a text is its place.
-fn number_of(value: Value) -> i64
+/// A value as a number; that of a text is its place.
+pub fn number_of(value: Value) -> i64
     ensures { result ≡ number value }
 {
     match value {

@@ -3,21 +3,26 @@
 
 mod arithmetic;
 mod asking;
+mod buffers;
 mod calls;
 mod cells;
 mod engine;
 mod hearing;
 mod memory;
 mod numbers;
+mod outermost;
 mod output;
 mod performing;
 mod printing;
+mod requests;
+mod resuming;
 mod starting;
 mod step;
-#[cfg(test)]
-mod tests;
 mod values;
+mod vm;
 
+pub use buffers::Buffers;
 pub use engine::{Engine, Flow};
 pub use memory::Memory;
 pub use starting::Progress;
+pub use vm::{Demand, Vm};

@@ -44,8 +44,8 @@ impl Model for Memory {
 }
 
 impl Memory {
-    ghost use Rattle.std.specs.Prelude.{◌≡◌, ◌+◌, ◌-◌, ◌<◌, ◌≤◌, length, reverse, take, slice_get, IfOk, Some};
-    ghost use Rattle.cl_vm.specs.Memory.{empty_memory, with_pushed, with_local, with_global, with_cleared, with_dropped, with_entered, with_more};
+    ghost use Rattle.std.specs.Prelude.{◌≡◌, ◌+◌, ◌-◌, ◌<◌, ◌≤◌, [], ◌∷◌, length, reverse, take, slice_get, IfOk, Some};
+    ghost use Rattle.cl_vm.specs.Memory.{empty_memory, with_pushed, with_local, with_global, with_cleared, with_added, with_dropped, with_entered, with_more, with_none};
     ghost use Rattle.cl_vm.specs.MemoryViews.{Left};
 
     /// A memory with these globals and no function, with room for so many cells, numbers and functions that wait.
@@ -169,6 +169,22 @@ impl Memory {
         ensures { self.new ≡ with_more count self.old }
     {
         append_zeros(&mut self.cells, count);
+    }
+
+    /// Drops the cells and numbers of the active function.
+    pub fn restart(&mut self)
+        ensures { self.new ≡ with_none self.old }
+    {
+        self.cells.truncate(self.base);
+        self.numbers.truncate(self.floor);
+    }
+
+    /// Gives the active function one more cell with this number, in room that was made before.
+    pub fn add_cell(&mut self, n: i64)
+        requires { 0 < self.old.cell_room }
+        ensures { self.new ≡ with_added (n ∷ []) self.old }
+    {
+        self.cells.push_reserved(n);
     }
 
     /// How many functions wait.

@@ -1,34 +1,60 @@
 //! What an engine does at an operation. (The operations: Gelernter 1985.)
 
-ghost use Rattle.std.specs.Prelude.{◌≡◌, ◌<◌, ◌≤◌, IfOk, Some, length, slice_get};
-ghost use Rattle.cl_code.specs.Plain.{plain_program};
-ghost use Rattle.cl_code.specs.Valid.{Valid};
+ghost use Rattle.std.specs.Prelude.{◌≡◌, ◌*◌, ◌<◌, ◌≤◌, IsTrue, OnOk, Some, length, map, slice_get};
+ghost use Rattle.std.specs.List.{list_all};
+ghost use Rattle.cl_code.specs.Plain.{PlainProgram, plain_function, plain_program};
+ghost use Rattle.cl_code.specs.Sites.{none_or, places, takes};
+ghost use Rattle.cl_code.specs.Valid.{Valid, function_is_short};
 ghost use Rattle.cl_sig.specs.Views.{plain_signature};
-ghost use Rattle.cl_vm.specs.Asks.{AsksFor, IsPlain, StandsAt};
-ghost use Rattle.cl_vm.specs.Counting.{count_of_marks};
+ghost use Rattle.cl_vm.specs.Asks.{AsksFor, StandsAt};
+ghost use Rattle.cl_vm.specs.Buffers.{IsReady};
 ghost use Rattle.cl_value.specs.Plain.{PlainReply};
 ghost use Rattle.cl_vm.specs.Hears.{Fits, Heard, plain_reply};
+ghost use Rattle.cl_vm.specs.Parts.{widest_of};
 ghost use Rattle.cl_vm.specs.Runs.{Runs};
 
 use crate::Engine;
-use crate::asking::{Asking, operation_of};
+use crate::asking::{first_call, parameters_of};
+use crate::buffers::Buffers;
 use crate::hearing::push_told;
-use cl_code::{Program, each_height_is_met, each_instruction_leads_on};
+use cl_code::{Function, Program, each_height_is_met, each_instruction_leads_on};
 use cl_sig::{Mark, Signature};
-use cl_value::{NoMemory, Reply};
-use std::alloc::Global;
+use cl_value::{Reply, Trap};
 
-// How many numbers these fields take, of which none is a call.
-fn count_of(marks: &[Mark]) -> usize
-    requires { length marks.now ≤ 16 }
-    ensures value { result ≡ count_of_marks marks.now }
-    ensures few { result ≤ length marks.now }
+// How many numbers these fields take.
+fn count_of(functions: &[Function], marks: &[Mark], calls: &[Option<u32>]) -> usize
+    requires few { length marks.now ≤ 16 }
+    requires short { IsTrue (list_all function_is_short (map plain_function functions.now)) }
+    ensures value { (p : PlainProgram) → p.functions ≡ map plain_function functions.now → result ≡ takes p (places marks.now calls.now) }
+    ensures few { result ≤ length marks.now * 4294967296 }
 {
     match marks {
         [] => 0,
-        [Mark::Actual(_), rest @ ..] => 1 + count_of(rest),
-        [_, rest @ ..] => count_of(rest),
+        [mark, rest @ ..] => {
+            let (call, others) = first_call(calls);
+            match (*mark, call) {
+                (Mark::Actual(_), None) => 1 + count_of(functions, rest, others),
+                (Mark::Actual(_), Some(function)) => {
+                    let own = parameters_of(functions, function).len();
+                    own + count_of(functions, rest, others)
+                }
+                (Mark::Constant(_), _) => count_of(functions, rest, others),
+                (Mark::Formal(_), _) => count_of(functions, rest, others),
+            }
+        }
     }
+}
+
+// The functions of a site's fields, where they are calls.
+fn calls_of(program: &Program, site: u32) -> &[Option<u32>]
+    ensures { result.now ≡ none_or (slice_get (plain_program program.now).calls site) }
+{
+    let parts = program.parts();
+    let k = site as usize;
+    if k >= parts.calls.len() {
+        return &[];
+    }
+    parts.calls.at(k).as_slice()
 }
 
 impl Engine {
@@ -45,32 +71,33 @@ impl Engine {
         parts.sites.at(site as usize)
     }
 
-    /// The request of the operation at which it stands, which isn't an `eval`, or its trap. `NoMemory` comes where the
-    /// allocator refused the room of the request.
+    /// Asks for the operation at which it stands, or traps.
     pub(crate) fn ask(
         &self,
-        alloc: Global,
         program: &Program,
         site: u32,
-    ) -> Result<Asking, NoMemory>
+        buffers: &mut Buffers,
+    ) -> Result<(), Trap>
         requires runs { Runs (plain_program program.now) self.now }
         requires here { StandsAt (plain_program program.now) site self.now }
-        requires plain { IsPlain (plain_program program.now) site }
-        ensures { IfOk result (AsksFor (plain_program program.now) site self.now) }
+        requires ready { IsReady (widest_of (plain_program program.now).functions) buffers.old }
+        ensures asks { AsksFor (plain_program program.now) site self.now result buffers.new }
+        ensures ready { OnOk result (IsReady (widest_of (plain_program program.now).functions) buffers.new) }
     {
         each_height_is_met();
         each_instruction_leads_on();
         let signature = self.site_of(program, site);
-        let marks = signature.fields.as_slice();
-        let numbers = self.memory.top(count_of(marks));
-        operation_of(alloc, signature.kind, marks, numbers)
+        let functions = program.functions();
+        let calls = calls_of(program, site);
+        let count = count_of(functions, signature.fields.as_slice(), calls);
+        let numbers = self.memory.top(count);
+        buffers.ask(self.depth, functions, site, signature, calls, numbers)
     }
 
-    /// Goes on behind the operation at which it stands, which isn't an `eval`, with what this reply gives.
+    /// Goes on behind the operation at which it stands, with what this reply gives.
     pub(crate) fn hear(&mut self, program: &Program, site: u32, reply: &Reply)
         requires runs { Runs (plain_program program.now) self.old }
         requires here { StandsAt (plain_program program.now) site self.old }
-        requires plain { IsPlain (plain_program program.now) site }
         ensures runs { (told : PlainReply) → plain_reply reply.now ≡ Some told → Fits (plain_program program.now) site told self.old → Runs (plain_program program.now) self.new }
         ensures stands { (told : PlainReply) → plain_reply reply.now ≡ Some told → Heard (plain_program program.now) site told self.old self.new }
     {
@@ -78,7 +105,8 @@ impl Engine {
         each_instruction_leads_on();
         let signature = self.site_of(program, site);
         let marks = signature.fields.as_slice();
-        self.memory.drop_top(count_of(marks));
+        let count = count_of(program.functions(), marks, calls_of(program, site));
+        self.memory.drop_top(count);
         push_told(&mut self.memory, signature.kind, marks, reply);
         self.place += 1;
     }

@@ -1,28 +1,23 @@
-//! How a process begins. (Limits: this project.)
+//! An engine before its process begins. (Limits: this project.)
 
-ghost use Rattle.std.specs.Prelude.{ℕ, List, slice_get, Some, ◌≡◌, ◌<◌, ◌≤◌, ◌^◌, IfOk, length, map};
+ghost use Rattle.std.specs.Prelude.{◌≡◌, ◌≤◌, IfOk, length, map};
 ghost use Rattle.cl_code.specs.Plain.{plain_function, plain_program};
-ghost use Rattle.cl_code.specs.Valid.{Valid};
-ghost use Rattle.cl_value.specs.Plain.{Main, PlainReply};
-ghost use Rattle.cl_code.specs.Process.{code_demand, result_as};
-ghost use Rattle.cl_vm.specs.Engine.{onward};
-ghost use Rattle.cl_vm.specs.Runs.{Runs};
-ghost use Rattle.cl_vm.specs.Begins.{Begins, ComesTo, IsFresh, behind_main, main_cells, progress_of, highest_of, most_of};
+ghost use Rattle.cl_vm.specs.Begins.{IsFresh, highest_of, most_of};
+ghost use Rattle.cl_vm.specs.Parts.{widest_of};
 
 use crate::calls::{MOST_ACTIVE, MOST_CELLS};
 use crate::output::MOST_PRINTED;
-use crate::values::result_as;
-use crate::{Engine, Flow, Memory};
-use cl_code::{Function, Program, each_process_is_right};
-use cl_value::{FieldType, NoMemory, Trap, Value};
+use crate::{Engine, Memory};
+use cl_code::{Function, Program};
+use cl_value::{NoMemory, Trap, Value};
 use std::alloc::Global;
 
-/// What a process came to.
+/// What a function came to that nothing waits for.
 #[derive(Clone, Copy, Debug, PartialEq, Eq)]
 pub enum Progress {
     /// It stands at the operation of this site.
     Op(u32),
-    /// It finished with this value.
+    /// It gave this value.
     Finished(Value),
     /// It can't go on.
     Trapped(Trap),
@@ -45,6 +40,16 @@ fn most_of(functions: &[Function]) -> u32
     match functions {
         [] => 0,
         [function, rest @ ..] => function.temporaries.max(most_of(rest)),
+    }
+}
+
+/// The most parameters of these functions.
+pub fn widest_of(functions: &[Function]) -> usize
+    ensures { result ≡ widest_of (map plain_function functions.now) }
+{
+    match functions {
+        [] => 0,
+        [function, rest @ ..] => function.parameters.len().max(widest_of(rest)),
     }
 }
 
@@ -95,75 +100,4 @@ impl Engine {
             depth,
         })
     }
-
-    /// Begins at the main function. Its cells and the globals are claimed first.
-    pub(crate) fn begin_main(&mut self, program: &Program) -> Flow
-        ghost steps: { ℕ }
-        requires { IsFresh (plain_program program.now) steps 0 self.old }
-        ensures { Begins (plain_program program.now) steps result self.new }
-    {
-        each_process_is_right();
-        let globals = program.parts().globals.len();
-        if globals > MOST_CELLS {
-            return Flow::Stop(Trap::CellLimit);
-        }
-        let main = main_function(program);
-        let cells = main.cells as usize;
-        if globals + cells > MOST_CELLS {
-            return Flow::Stop(Trap::CellLimit);
-        }
-        self.memory.extend(cells + main.temporaries as usize);
-        self.cells = globals + cells;
-        self.place = main.entry as usize;
-        Flow::On
-    }
-}
-
-impl Engine {
-    /// Does process 0 from its beginning up to its first operation or its end.
-    pub(crate) fn run_main(&mut self, program: &Program) -> Progress
-        ghost steps: { ℕ }
-        requires { IsFresh (plain_program program.now) steps 0 self.old }
-        ensures { ComesTo (plain_program program.now) steps result self.new }
-    {
-        match self.begin_main(program) {
-            Flow::On => self.go_on(program),
-            Flow::Stop(trap) => Progress::Trapped(trap),
-            Flow::Over(_) | Flow::Ask(_) => unreachable!(),
-        }
-    }
-
-    // Goes on up to its first operation or its end.
-    fn go_on(&mut self, program: &Program) -> Progress
-        ghost steps: { ℕ }
-        requires runs { Runs (plain_program program.now) self.old }
-        requires leads { (replies : List PlainReply) → code_demand (plain_program program.now) steps Main replies ≡ onward (plain_program program.now) (behind_main (plain_program program.now) (main_cells (plain_program program.now))) self.old replies }
-        ensures { ComesTo (plain_program program.now) steps result self.new }
-    {
-        match self.run(program) {
-            Flow::Stop(trap) => Progress::Trapped(trap),
-            Flow::Over(n) => finished(main_function(program).gives, n),
-            Flow::Ask(site) => Progress::Op(site),
-            Flow::On => unreachable!(),
-        }
-    }
-}
-
-// What the result of the main function comes to.
-fn finished(gives: Option<FieldType>, n: i64) -> Progress
-    ensures { result ≡ progress_of (result_as gives n) }
-{
-    match result_as(gives, n) {
-        Ok(value) => Progress::Finished(value),
-        Err(trap) => Progress::Trapped(trap),
-    }
-}
-
-// The function at which process 0 begins.
-fn main_function(program: &Program) -> &Function
-    ensures valid { Valid (plain_program program.now) }
-    ensures is { slice_get (plain_program program.now).functions (plain_program program.now).main ≡ Some (plain_function result.now) }
-{
-    let parts = program.parts();
-    parts.functions.at(parts.main as usize)
 }

@@ -7,8 +7,8 @@ use Rattle.cl_code.specs.Sites.{as_value}
 use Rattle.cl_vm.proofs.Filling.{whole, number_read}
 use Rattle.cl_vm.proofs.asking.+add_numbers.Goals as goal
 
-pub returns-in_ok-as_value-in-len1-up-numbers : goal.returns-in_ok-as_value-in-len1-up-numbers
-returns-in_ok-as_value-in-len1-up-numbers t c =
+pub returns-in_ok-as_value-in-len1-up-numbers-clause-filled : goal.returns-in_ok-as_value-in-len1-up-numbers-clause-filled
+returns-in_ok-as_value-in-len1-up-numbers-clause-filled t c =
     let z = to_z-of_z w64 (get_or c.args.numbers.now 0 (pos 0)) (search rules) in
     let value = sym (ap (λ (n : ℤ). as_value (get_or c.args.types.now 0 types.Int) n) z) ∙ sym c.as_value.ensures ∙ c.in_ok-as_value-in-len1-up-numbers.was in
-    number_read _ _ _ _ _ _ c.in_ok-as_value-in-len1-up-numbers.field-0 _ _ _ _ (whole types.Int _ _ c.in-len1-up.len_at_least refl) (whole (pos 0) _ _ c.in-len1-up-numbers.len_at_least refl) value c.push.ensures.items c.add_numbers.ensures
+    number_read _ _ _ _ _ _ c.in_ok-as_value-in-len1-up-numbers.field-0 _ _ _ _ (whole types.Int _ _ c.in-len1-up.len_at_least refl) (whole (pos 0) _ _ c.in-len1-up-numbers.len_at_least refl) value c.push.ensures.items c.add_numbers.ensures.filled

@@ -1,54 +1,64 @@
-use Rattle.std.proofs.Common.{◌≤◌, List, [], length, ap, sym, subst, ◌∙◌, arith}
-use Rattle.std.specs.Prelude.{ℤ, ℕ, reverse, take}
+use Rattle.std.proofs.Common.{◌≡◌, ◌≤◌, ◌∙◌, List, Option, length, ap, sym, subst, arith, refl}
+use Rattle.std.specs.Prelude.{ℤ, ℕ, map, reverse, take}
 use Rattle.std.specs.List.{list_all}
 use Rattle.cl_sig.specs.Views.{plain_signature}
 use Rattle.cl_sig.specs.declared.signature.Mark.{Mark}
-use Rattle.cl_code.specs.Plain.{PlainProgram, plain_program}
-use Rattle.cl_code.specs.Sites.{Field, Place, fields_of, places, places_at}
-use Rattle.cl_vm.specs.Asking.{Asked, is_evaluated, is_receivable}
-use Rattle.cl_vm.specs.Asks.{AsksFor}
-use Rattle.cl_vm.specs.declared.asking.Asking.{Asking}
+use Rattle.cl_code.specs.Plain.{PlainFunction, plain_function, plain_program}
+use Rattle.cl_code.specs.Sites.{Field, Place, fields_of, places, places_at, takes}
+use Rattle.cl_code.specs.Valid.{function_is_short}
+use Rattle.cl_code.specs.declared.function.Function.{Function}
 use Rattle.cl_model.specs.Doing.{Checked}
-use Rattle.cl_vm.specs.Counting.{count_of_marks}
-use Rattle.cl_vm.proofs.SiteNeeds.{enough_there, some_fields, few_fields, evaluated_there, receivable_there, plain_places, plain_count}
-use Rattle.cl_vm.proofs.Operations.{asks_for, if_ok}
+use Rattle.cl_vm.specs.Asks.{count_at, numbers_at}
+use Rattle.cl_vm.specs.Buffers.{IsReady, Stands}
+use Rattle.cl_vm.specs.Parts.{widest_of}
+use Rattle.cl_vm.proofs.SiteNeeds.{enough_there, some_fields, few_fields, evaluated_there, receivable_there, plain_places, functions_short}
+use Rattle.cl_vm.proofs.Operations.{asks_for}
 use Rattle.cl_vm.proofs.engine.Engine.ask.Goals as goal
 
-pub count_of-requires : goal.count_of-requires
-count_of-requires c = subst (λ (ms : List Mark). length ms ≤ 16) (sym c.as_slice-marks.ensures) (few_fields (plain_program c.args.program.now) c.site_of-signature.ensures.valid c.each_height_is_met.ensures.heights c.each_height_is_met.ensures.stacks c.each_instruction_leads_on.ensures.steps c.args.self.now c.requires.runs c.args.site c.requires.here (plain_signature c.site_of-signature.result.now) c.site_of-signature.ensures.is)
+pub count_of-count-requires-clause-few : goal.count_of-count-requires-clause-few
+count_of-count-requires-clause-few c = subst (λ (ms : List Mark). length ms ≤ 16) (sym c.as_slice.ensures) (few_fields (plain_program c.args.program.now) c.site_of-signature.ensures.valid c.each_height_is_met.ensures.heights c.each_height_is_met.ensures.stacks c.each_instruction_leads_on.ensures.steps c.args.self.now c.requires.runs c.args.site c.requires.here (plain_signature c.site_of-signature.result.now) c.site_of-signature.ensures.is)
+
+pub count_of-count-requires-clause-short : goal.count_of-count-requires-clause-short
+count_of-count-requires-clause-short c = ap (λ (fs : List Function). list_all function_is_short (map plain_function fs)) c.functions-functions.ensures ∙ functions_short (plain_program c.args.program.now) c.site_of-signature.ensures.valid
 
 pub top-numbers-requires : goal.top-numbers-requires
 top-numbers-requires c =
-    let plain = c.requires.plain (plain_signature c.site_of-signature.result.now) c.site_of-signature.ensures.is in
-    let count = c.count_of.ensures.value ∙ ap count_of_marks c.as_slice-marks.ensures ∙ sym (plain_count (plain_program c.args.program.now) c.site_of-signature.ensures.valid c.each_height_is_met.ensures.heights c.each_height_is_met.ensures.stacks c.each_instruction_leads_on.ensures.steps c.args.self.now c.requires.runs c.args.site c.requires.here (plain_signature c.site_of-signature.result.now) c.site_of-signature.ensures.is plain) in
+    let p = plain_program c.args.program.now in
+    let signature = plain_signature c.site_of-signature.result.now in
+    let functions = sym (ap (λ (fs : List Function). map plain_function fs) c.functions-functions.ensures) in
+    let all = ap (λ (ms : List Mark). places ms c.calls_of-calls.result.now) c.as_slice.ensures ∙ ap (λ (cs : List (Option ℕ)). places signature.fields cs) c.calls_of-calls.ensures in
+    let count = c.count_of-count.ensures.value p functions ∙ ap (takes p) all in
     let enough = enough_there (plain_program c.args.program.now) c.site_of-signature.ensures.valid c.each_height_is_met.ensures.heights c.each_height_is_met.ensures.stacks c.each_instruction_leads_on.ensures.steps c.args.self.now c.requires.runs c.args.site c.requires.here (plain_signature c.site_of-signature.result.now) c.site_of-signature.ensures.is in
     omega (arith, count, enough)
 
-pub operation_of-requires-clause-plain : goal.operation_of-requires-clause-plain
-operation_of-requires-clause-plain c = c.requires.plain (plain_signature c.site_of-signature.result.now) c.site_of-signature.ensures.is
+pub ask-requires-clause-plain : goal.ask-requires-clause-plain
+ask-requires-clause-plain c plain =
+    let signature = plain_signature c.site_of-signature.result.now in
+    ap (λ (cs : List (Option ℕ)). places signature.fields cs) c.calls_of-calls.ensures ∙ plain_places (plain_program c.args.program.now) c.site_of-signature.ensures.valid c.each_height_is_met.ensures.heights c.each_height_is_met.ensures.stacks c.each_instruction_leads_on.ensures.steps c.args.self.now c.requires.runs c.args.site c.requires.here (plain_signature c.site_of-signature.result.now) c.site_of-signature.ensures.is plain
 
-pub operation_of-requires-clause-some : goal.operation_of-requires-clause-some
-operation_of-requires-clause-some c = subst (λ (ms : List Mark). 1 ≤ length ms) (sym c.as_slice-marks.ensures) (some_fields (plain_program c.args.program.now) c.site_of-signature.ensures.valid c.each_height_is_met.ensures.heights c.each_height_is_met.ensures.stacks c.each_instruction_leads_on.ensures.steps c.args.self.now c.requires.runs c.args.site c.requires.here (plain_signature c.site_of-signature.result.now) c.site_of-signature.ensures.is)
+pub ask-requires-clause-some : goal.ask-requires-clause-some
+ask-requires-clause-some c = some_fields (plain_program c.args.program.now) c.site_of-signature.ensures.valid c.each_height_is_met.ensures.heights c.each_height_is_met.ensures.stacks c.each_instruction_leads_on.ensures.steps c.args.self.now c.requires.runs c.args.site c.requires.here (plain_signature c.site_of-signature.result.now) c.site_of-signature.ensures.is
 
-pub operation_of-requires-clause-few : goal.operation_of-requires-clause-few
-operation_of-requires-clause-few c = subst (λ (ms : List Mark). length ms ≤ 16) (sym c.as_slice-marks.ensures) (few_fields (plain_program c.args.program.now) c.site_of-signature.ensures.valid c.each_height_is_met.ensures.heights c.each_height_is_met.ensures.stacks c.each_instruction_leads_on.ensures.steps c.args.self.now c.requires.runs c.args.site c.requires.here (plain_signature c.site_of-signature.result.now) c.site_of-signature.ensures.is)
+pub ask-requires-clause-few : goal.ask-requires-clause-few
+ask-requires-clause-few c = few_fields (plain_program c.args.program.now) c.site_of-signature.ensures.valid c.each_height_is_met.ensures.heights c.each_height_is_met.ensures.stacks c.each_instruction_leads_on.ensures.steps c.args.self.now c.requires.runs c.args.site c.requires.here (plain_signature c.site_of-signature.result.now) c.site_of-signature.ensures.is
 
-pub operation_of-requires-clause-evaluated : goal.operation_of-requires-clause-evaluated
-operation_of-requires-clause-evaluated c none = ap (list_all is_evaluated) c.as_slice-marks.ensures ∙ evaluated_there (plain_program c.args.program.now) c.site_of-signature.ensures.valid c.each_height_is_met.ensures.heights c.each_height_is_met.ensures.stacks c.each_instruction_leads_on.ensures.steps c.args.self.now c.requires.runs c.args.site c.requires.here (plain_signature c.site_of-signature.result.now) c.site_of-signature.ensures.is none
+pub ask-requires-clause-evaluated : goal.ask-requires-clause-evaluated
+ask-requires-clause-evaluated c none = evaluated_there (plain_program c.args.program.now) c.site_of-signature.ensures.valid c.each_height_is_met.ensures.heights c.each_height_is_met.ensures.stacks c.each_instruction_leads_on.ensures.steps c.args.self.now c.requires.runs c.args.site c.requires.here (plain_signature c.site_of-signature.result.now) c.site_of-signature.ensures.is none
 
-pub operation_of-requires-clause-receivable : goal.operation_of-requires-clause-receivable
-operation_of-requires-clause-receivable c = ap (list_all is_receivable) c.as_slice-marks.ensures ∙ receivable_there (plain_program c.args.program.now) c.site_of-signature.ensures.valid c.each_height_is_met.ensures.heights c.each_height_is_met.ensures.stacks c.each_instruction_leads_on.ensures.steps c.args.self.now c.requires.runs c.args.site c.requires.here (plain_signature c.site_of-signature.result.now) c.site_of-signature.ensures.is
+pub ask-requires-clause-receivable : goal.ask-requires-clause-receivable
+ask-requires-clause-receivable c = receivable_there (plain_program c.args.program.now) c.site_of-signature.ensures.valid c.each_height_is_met.ensures.heights c.each_height_is_met.ensures.stacks c.each_instruction_leads_on.ensures.steps c.args.self.now c.requires.runs c.args.site c.requires.here (plain_signature c.site_of-signature.result.now) c.site_of-signature.ensures.is
 
-pub returns : goal.returns
-returns c =
+pub returns-clause-asks : goal.returns-clause-asks
+returns-clause-asks c =
     let p = plain_program c.args.program.now in
     let e = c.args.self.now in
     let signature = plain_signature c.site_of-signature.result.now in
-    let plain = c.requires.plain signature c.site_of-signature.ensures.is in
-    let count = c.count_of.ensures.value ∙ ap count_of_marks c.as_slice-marks.ensures ∙ sym (plain_count (plain_program c.args.program.now) c.site_of-signature.ensures.valid c.each_height_is_met.ensures.heights c.each_height_is_met.ensures.stacks c.each_instruction_leads_on.ensures.steps c.args.self.now c.requires.runs c.args.site c.requires.here (plain_signature c.site_of-signature.result.now) c.site_of-signature.ensures.is plain) in
-    let all = ap (λ (ms : List Mark). places ms []) c.as_slice-marks.ensures ∙ sym (plain_places (plain_program c.args.program.now) c.site_of-signature.ensures.valid c.each_height_is_met.ensures.heights c.each_height_is_met.ensures.stacks c.each_instruction_leads_on.ensures.steps c.args.self.now c.requires.runs c.args.site c.requires.here (plain_signature c.site_of-signature.result.now) c.site_of-signature.ensures.is plain) in
-    let numbers = c.top-numbers.ensures ∙ ap (λ (n : ℕ). reverse (take n e.memory.stack)) count in
-    let same = ap (λ (ps : List Place). fields_of p ps c.top-numbers.result.now) all ∙ ap (λ (ns : List ℤ). fields_of p (places_at p c.args.site signature) ns) numbers in
-    if_ok (λ (given : Asking). (q : PlainProgram) → Asked signature.kind (fields_of q (places c.as_slice-marks.result.now []) c.top-numbers.result.now) given) (AsksFor p c.args.site e)
-    (λ given h. asks_for p c.site_of-signature.ensures.valid c.each_instruction_leads_on.ensures.steps e c.args.site c.requires.here signature c.site_of-signature.ensures.is (enough_there (plain_program c.args.program.now) c.site_of-signature.ensures.valid c.each_height_is_met.ensures.heights c.each_height_is_met.ensures.stacks c.each_instruction_leads_on.ensures.steps c.args.self.now c.requires.runs c.args.site c.requires.here (plain_signature c.site_of-signature.result.now) c.site_of-signature.ensures.is) plain given
-    (subst (λ (read : Checked (List Field)). Asked signature.kind read given) same (h p))) c.operation_of.result c.operation_of.ensures
+    let functions = sym (ap (λ (fs : List Function). map plain_function fs) c.functions-functions.ensures) in
+    let calls = ap (λ (cs : List (Option ℕ)). places signature.fields cs) c.calls_of-calls.ensures in
+    let all = ap (λ (ms : List Mark). places ms c.calls_of-calls.result.now) c.as_slice.ensures ∙ calls in
+    let count = c.count_of-count.ensures.value p functions ∙ ap (takes p) all in
+    let numbers : c.top-numbers.result.now ≡ numbers_at (count_at p c.args.site signature) e = c.top-numbers.ensures ∙ ap (λ (n : ℕ). reverse (take n e.memory.stack)) count in
+    let read : fields_of p (places signature.fields c.calls_of-calls.result.now) c.top-numbers.result.now ≡ fields_of p (places_at p c.args.site signature) (numbers_at (count_at p c.args.site signature) e) =
+    ap (λ (ps : List Place). fields_of p ps c.top-numbers.result.now) calls ∙ ap (λ (ns : List ℤ). fields_of p (places_at p c.args.site signature) ns) numbers in
+    asks_for p c.site_of-signature.ensures.valid c.each_instruction_leads_on.ensures.steps e c.args.site c.requires.here signature c.site_of-signature.ensures.is (enough_there (plain_program c.args.program.now) c.site_of-signature.ensures.valid c.each_height_is_met.ensures.heights c.each_height_is_met.ensures.stacks c.each_instruction_leads_on.ensures.steps c.args.self.now c.requires.runs c.args.site c.requires.here (plain_signature c.site_of-signature.result.now) c.site_of-signature.ensures.is) c.ask.result c.ask.new.self
+    (subst (λ (r : Checked (List Field)). Stands e.depth signature.kind c.args.site r c.ask.result c.ask.new.self) read (c.ask.ensures.asked p functions))

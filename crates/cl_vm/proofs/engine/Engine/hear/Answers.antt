@@ -1,36 +1,43 @@
-use Rattle.std.proofs.Common.{◌≡◌, ◌≤◌, ◌+◌, List, length, suc, ap, sym, subst, ◌∙◌, arith, length-drop}
-use Rattle.std.specs.Prelude.{ℕ}
+use Rattle.std.proofs.Common.{◌≡◌, ◌≤◌, ◌+◌, List, Option, length, suc, ap, sym, subst, ◌∙◌, arith, length-drop}
+use Rattle.std.specs.Prelude.{ℕ, map}
+use Rattle.std.specs.List.{list_all}
+use Rattle.cl_code.specs.Valid.{function_is_short}
+use Rattle.cl_code.specs.declared.function.Function.{Function}
 use Rattle.std.proofs.lemmas.Option.{same_Some}
 use Rattle.cl_sig.specs.Views.{plain_signature}
 use Rattle.cl_sig.specs.Signatures.{PlainSignature}
 use Rattle.cl_sig.specs.declared.signature.Mark.{Mark}
-use Rattle.cl_code.specs.Plain.{plain_program}
-use Rattle.cl_code.specs.Sites.{formals_in}
+use Rattle.cl_code.specs.Plain.{plain_function, plain_program}
+use Rattle.cl_code.specs.Sites.{formals_in, places, takes}
 use Rattle.cl_vm.specs.Asks.{count_at, told_engine}
-use Rattle.cl_vm.specs.Counting.{count_of_marks}
 use Rattle.cl_vm.specs.Hears.{with_all, told_of}
 use Rattle.cl_vm.specs.Memory.{Memory, with_dropped}
 use Rattle.cl_vm.specs.Runs.{Runs}
 use Rattle.cl_vm.specs.declared.engine.Engine.{Engine}
 use Rattle.cl_vm.proofs.Operations.{runs_behind}
-use Rattle.cl_vm.proofs.SiteNeeds.{enough_there, few_fields, plain_count, room_there, place_short}
+use Rattle.cl_vm.proofs.SiteNeeds.{enough_there, few_fields, functions_short, room_there, place_short}
 use Rattle.cl_vm.proofs.engine.Engine.hear.Goals as goal
 
-pub count_of-requires : goal.count_of-requires
-count_of-requires c = subst (λ (ms : List Mark). length ms ≤ 16) (sym c.as_slice-marks.ensures) (few_fields (plain_program c.args.program.now) c.site_of-signature.ensures.valid c.each_height_is_met.ensures.heights c.each_height_is_met.ensures.stacks c.each_instruction_leads_on.ensures.steps c.args.self.now c.requires.runs c.args.site c.requires.here (plain_signature c.site_of-signature.result.now) c.site_of-signature.ensures.is)
+pub count_of-count-requires-clause-few : goal.count_of-count-requires-clause-few
+count_of-count-requires-clause-few c = subst (λ (ms : List Mark). length ms ≤ 16) (sym c.as_slice-marks.ensures) (few_fields (plain_program c.args.program.now) c.site_of-signature.ensures.valid c.each_height_is_met.ensures.heights c.each_height_is_met.ensures.stacks c.each_instruction_leads_on.ensures.steps c.args.self.now c.requires.runs c.args.site c.requires.here (plain_signature c.site_of-signature.result.now) c.site_of-signature.ensures.is)
+
+pub count_of-count-requires-clause-short : goal.count_of-count-requires-clause-short
+count_of-count-requires-clause-short c = ap (λ (fs : List Function). list_all function_is_short (map plain_function fs)) c.functions.ensures ∙ functions_short (plain_program c.args.program.now) c.site_of-signature.ensures.valid
 
 pub drop_top-requires : goal.drop_top-requires
 drop_top-requires c =
-    let plain = c.requires.plain (plain_signature c.site_of-signature.result.now) c.site_of-signature.ensures.is in
-    let count = c.count_of.ensures.value ∙ ap count_of_marks c.as_slice-marks.ensures ∙ sym (plain_count (plain_program c.args.program.now) c.site_of-signature.ensures.valid c.each_height_is_met.ensures.heights c.each_height_is_met.ensures.stacks c.each_instruction_leads_on.ensures.steps c.args.self.now c.requires.runs c.args.site c.requires.here (plain_signature c.site_of-signature.result.now) c.site_of-signature.ensures.is plain) in
+    let functions = sym (ap (λ (fs : List Function). map plain_function fs) c.functions.ensures) in
+    let own_places = ap (λ (ms : List Mark). places ms c.calls_of.result.now) c.as_slice-marks.ensures ∙ ap (λ (cs : List (Option ℕ)). places (plain_signature c.site_of-signature.result.now).fields cs) c.calls_of.ensures in
+    let count = c.count_of-count.ensures.value (plain_program c.args.program.now) functions ∙ ap (takes (plain_program c.args.program.now)) own_places in
     let enough = enough_there (plain_program c.args.program.now) c.site_of-signature.ensures.valid c.each_height_is_met.ensures.heights c.each_height_is_met.ensures.stacks c.each_instruction_leads_on.ensures.steps c.args.self.now c.requires.runs c.args.site c.requires.here (plain_signature c.site_of-signature.result.now) c.site_of-signature.ensures.is in
     omega (arith, count, enough)
 
 pub push_told-requires : goal.push_told-requires
 push_told-requires c =
-    let plain = c.requires.plain (plain_signature c.site_of-signature.result.now) c.site_of-signature.ensures.is in
-    let count = c.count_of.ensures.value ∙ ap count_of_marks c.as_slice-marks.ensures ∙ sym (plain_count (plain_program c.args.program.now) c.site_of-signature.ensures.valid c.each_height_is_met.ensures.heights c.each_height_is_met.ensures.stacks c.each_instruction_leads_on.ensures.steps c.args.self.now c.requires.runs c.args.site c.requires.here (plain_signature c.site_of-signature.result.now) c.site_of-signature.ensures.is plain) in
-    let long = ap (λ (m : Memory). length m.stack) c.drop_top.ensures ∙ length-drop c.count_of.result c.args.self.now.memory.stack in
+    let functions = sym (ap (λ (fs : List Function). map plain_function fs) c.functions.ensures) in
+    let own_places = ap (λ (ms : List Mark). places ms c.calls_of.result.now) c.as_slice-marks.ensures ∙ ap (λ (cs : List (Option ℕ)). places (plain_signature c.site_of-signature.result.now).fields cs) c.calls_of.ensures in
+    let count = c.count_of-count.ensures.value (plain_program c.args.program.now) functions ∙ ap (takes (plain_program c.args.program.now)) own_places in
+    let long = ap (λ (m : Memory). length m.stack) c.drop_top.ensures ∙ length-drop c.count_of-count.result c.args.self.now.memory.stack in
     let space = ap (λ (m : Memory). m.space) c.drop_top.ensures in
     let formals = ap formals_in c.as_slice-marks.ensures in
     let room = room_there (plain_program c.args.program.now) c.site_of-signature.ensures.valid c.each_height_is_met.ensures.heights c.each_height_is_met.ensures.stacks c.each_instruction_leads_on.ensures.steps c.args.self.now c.requires.runs c.args.site c.requires.here (plain_signature c.site_of-signature.result.now) c.site_of-signature.ensures.is in
@@ -45,11 +52,12 @@ returns-clause-stands c told is signature found =
     let e = c.args.self.now in
     let m = e.memory in
     let own = plain_signature c.site_of-signature.result.now in
-    let plain = c.requires.plain own c.site_of-signature.ensures.is in
-    let count = c.count_of.ensures.value ∙ ap count_of_marks c.as_slice-marks.ensures ∙ sym (plain_count (plain_program c.args.program.now) c.site_of-signature.ensures.valid c.each_height_is_met.ensures.heights c.each_height_is_met.ensures.stacks c.each_instruction_leads_on.ensures.steps c.args.self.now c.requires.runs c.args.site c.requires.here (plain_signature c.site_of-signature.result.now) c.site_of-signature.ensures.is plain) in
+    let functions = sym (ap (λ (fs : List Function). map plain_function fs) c.functions.ensures) in
+    let own_places = ap (λ (ms : List Mark). places ms c.calls_of.result.now) c.as_slice-marks.ensures ∙ ap (λ (cs : List (Option ℕ)). places (plain_signature c.site_of-signature.result.now).fields cs) c.calls_of.ensures in
+    let count = c.count_of-count.ensures.value (plain_program c.args.program.now) functions ∙ ap (takes (plain_program c.args.program.now)) own_places in
     let memory = c.push_told.ensures told is
     ∙ ap (λ (x : Memory). with_all (told_of own.kind c.as_slice-marks.result.now told) x) c.drop_top.ensures
-    ∙ ap (λ (ms : List Mark). with_all (told_of own.kind ms told) (with_dropped c.count_of.result m)) c.as_slice-marks.ensures
+    ∙ ap (λ (ms : List Mark). with_all (told_of own.kind ms told) (with_dropped c.count_of-count.result m)) c.as_slice-marks.ensures
     ∙ ap (λ (n : ℕ). with_all (told_of own.kind own.fields told) (with_dropped n m)) count in
     let next : e.place + 1 ≡ suc e.place = omega arith in
     ap (λ (x : Memory). record e { memory = x; place = e.place + 1 }) memory
