@@ -11,8 +11,8 @@ import time
 
 STEPS = 100_000_000
 COUNTS = (10_000, 100_000, 1_000_000)
-# so many globals and as many uses of them, in a source of so many bytes
-GLOBALS = ((3_000, 104_858), (30_000, 1_048_576))
+# so many variables and as many uses of them, in a source of so many bytes
+VARIABLES = ((3_000, 104_858), (30_000, 1_048_576))
 
 
 def arithmetic(count):
@@ -49,11 +49,14 @@ def take(space):
             return number
 
 
-def with_globals(count, size):
-    """A source of this size with so many globals, each of which it uses once."""
+def with_variables(place, count, size):
+    """A source of this size with so many globals or locals, each of which it uses once."""
     names = [f"number_{n:05}" for n in range(count)]
-    text = "".join(f"int {name};\n" for name in names) + "real_main(){\n"
-    text += "".join(f"{name}++;\n" for name in names) + f'printf("%d\\n",{names[-1]});}}\n//'
+    declared = "".join(f"int {name};\n" for name in names)
+    used = "".join(f"{name}++;\n" for name in names)
+    begin = "real_main(){\n"
+    front = declared + begin if place == "globals" else begin + declared
+    text = front + used + f'printf("%d\\n",{names[-1]});}}\n//'
     return text + "x" * (size - len(text))
 
 
@@ -101,13 +104,13 @@ def loops(program, name, source, function):
         before = ours
 
 
-def sources(program):
+def sources(program, place):
     before = None
-    for count, size in GLOBALS:
-        spent, megabytes, printed = seconds(program, with_globals(count, size))
+    for count, size in VARIABLES:
+        spent, megabytes, printed = seconds(program, with_variables(place, count, size))
         assert printed == "1", printed
         growth = f"{spent / before:.1f}" if before else ""
-        print(f"| {count} | {size} | {spent:.3f} | {growth} | {megabytes:.0f} |")
+        print(f"| {place} | {count} | {size} | {spent:.3f} | {growth} | {megabytes:.0f} |")
         before = spent
 
 
@@ -118,9 +121,10 @@ def main():
     loops(program, "arithmetic", arithmetic, arithmetic_here)
     loops(program, "tuples, n acts", tuples, tuples_here)
     print()
-    print("| Globals, and as many uses | bytes | seconds | against a tenth | MB |")
-    print("|---|---|---|---|---|")
-    sources(program)
+    print("| Source | variables, and as many uses | bytes | seconds | against a tenth | MB |")
+    print("|---|---|---|---|---|---|")
+    sources(program, "globals")
+    sources(program, "locals")
 
 
 if __name__ == "__main__":
