@@ -38,7 +38,7 @@ use Rattle.cl_typing.specs.Values.{IsOf}
 use Rattle.cl_typing.specs.Standing.{FitsScope, Fits, function_in}
 use Rattle.cl_typing.specs.Requests.{AreArguments, Beside, PartSuits, AskSuits, Allows}
 use Rattle.cl_typing.specs.Texts.{outside, parameters_declared, PartFits, StartFits, Becomes, Become, EndFits, AsksAt, IsRequestOf, OutcomeFits}
-use Rattle.cl_typing.specs.Laws.{around, ValuesAreTyped, StatementsKeep, DemandsFit, EvalsFit}
+use Rattle.cl_typing.specs.Laws.{around, FunctionsHaveScenes, ValuesAreTyped, StatementsKeep, DemandsFit, EvalsFit}
 use Rattle.cl_typing.specs.Steps.{Leads, Keeps}
 use Rattle.cl_typing.proofs.Leading.{leads_more, right_claim, keeps_bind, keeps_then, keeps_more, keeps_pure}
 use Rattle.cl_typing.proofs.Calling.{GivesResult, Takes, CallsRight, named_is}
@@ -46,7 +46,7 @@ use Rattle.cl_typing.proofs.Expressions.{every_expr}
 use Rattle.cl_typing.proofs.Statements.{every_stmt}
 use Rattle.cl_typing.proofs.Functions.{Fine, all_in, run_keeps, calls_keep}
 use Rattle.cl_typing.proofs.Outside.{outer_fits}
-use Rattle.cl_typing.proofs.Texts.{first_seen, items_fine}
+use Rattle.cl_typing.proofs.Texts.{first_seen, EachFine, items_fine, all_are_fine, fine_behind}
 
 -- ---- where the program begins
 
@@ -91,9 +91,12 @@ module _ (R : PlainRequest → Type 0) (xs : List Item) where
   abbrev K : Variables → Type 0
   K all = Fits (outside xs) [] all
 
-  all_fine : faults xs ≡ [] → are_settled xs ≡ true → Allows text (functions_of xs) site R (findings xs) → AllByRecursion FineHere (functions_of xs)
-  all_fine none settled allowed = items_fine (functions_of xs) R text site (outside xs) xs [] [] (known_first xs)
+  each_fine : faults xs ≡ [] → are_settled xs ≡ true → Allows text (functions_of xs) site R (findings xs) → EachFine (functions_of xs) R text site (outside xs) xs (known_first xs)
+  each_fine none settled allowed = items_fine (functions_of xs) R text site (outside xs) xs [] [] (known_first xs)
       (record { sees = first_seen xs; fresh = λ name h. refl; unseen = λ name h. refl }) refl refl settled (clean_split (main_notes xs) (items_walked xs (known_first xs)).notes (clean_unit xs none)).1 allowed
+
+  all_fine : faults xs ≡ [] → are_settled xs ≡ true → Allows text (functions_of xs) site R (findings xs) → AllByRecursion FineHere (functions_of xs)
+  all_fine none settled allowed = all_are_fine (functions_of xs) R text site (outside xs) xs (known_first xs) (each_fine none settled allowed)
 
   owns : (fs : List Function) → AllByRecursion FineHere fs → AllByRecursion (λ (f : Function). function_in (functions_of xs) f.name.bytes ≡ Some f) fs
   owns [] h = tt
@@ -176,6 +179,15 @@ nothing_asked text functions site (x ∷ fs) = (λ ask suits. tt, nothing_asked 
 
 nothing_fine : (xs : List Item) → faults xs ≡ [] → are_settled xs ≡ true → AllByRecursion (FineHere (λ q. Unit {0}) xs) (functions_of xs)
 nothing_fine xs none settled = all_fine (λ q. Unit {0}) xs none settled (nothing_asked (λ bytes. text_number bytes (texts_of xs)) (functions_of xs) (λ place. site_at place (in_items xs)) (findings xs))
+
+pub functions_have_scenes : FunctionsHaveScenes
+functions_have_scenes xs none settled before behind f is =
+    let R : PlainRequest → Type 0 = λ q. Unit {0} in
+    let text : List ℕ → ℕ = λ bytes. text_number bytes (texts_of xs) in
+    let site : ℕ → ℕ = λ place. site_at place (in_items xs) in
+    let each = each_fine R xs none settled (nothing_asked text (functions_of xs) site (findings xs)) in
+    let fine = fine_behind (functions_of xs) R text site (outside xs) before f behind (known_first xs) (subst (λ ys. EachFine (functions_of xs) R text site (outside xs) ys (known_first xs)) is each) in
+    (record { outer = []; inner = parameters_declared f.parameters; known = fine.0.known; sees = fine.0.sees }, refl, refl, fine.1, fine.0.clean)
 
 pub values_are_typed : ValuesAreTyped
 values_are_typed xs none settled depth more c x clean =

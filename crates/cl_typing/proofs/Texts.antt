@@ -29,6 +29,7 @@ use Rattle.cl_types.proofs.Clean.{Clean, clean_split}
 use Rattle.cl_typing.specs.Bodies.{is_settled, are_settled}
 use Rattle.cl_typing.specs.Standing.{first_in, IsVariable, HasFunction, Sees, Fresh, function_in}
 use Rattle.cl_typing.specs.Requests.{Allows}
+use Rattle.cl_typing.specs.Laws.{known_inside}
 use Rattle.cl_typing.specs.Texts.{variables_declared, outside, parameters_declared}
 use Rattle.cl_typing.proofs.Expressions.{all_split}
 use Rattle.cl_typing.proofs.Declaring.{first_append, not_again, declares_new, variable_seen, variable_fresh, function_seen, function_fresh, declared_now}
@@ -219,16 +220,26 @@ module _ (functions : List Function) where
     abbrev Allowed : Forms → Type 0
     Allowed fs = Allows text functions site R fs
 
+    -- with what is known at its statements, where this is known before it
+    abbrev pub FineAt : Function → Known → Type 0
+    FineAt f known = (fine : FineHere f) × (fine.known ≡ known_inside f known)
+
+    abbrev pub EachFine : List Item → Known → Type 0
+    EachFine [] known = Unit {0}
+    EachFine (items.Define d ∷ xs) known = EachFine xs (item_behind (items.Define d) known)
+    EachFine (items.Variables v ∷ xs) known = EachFine xs (item_behind (items.Variables v) known)
+    EachFine (items.Function f ∷ xs) known = FineAt f known × EachFine xs (item_behind (items.Function f) known)
+
     function_fine : (before after : List Declaration) (earlier : List Function) (known : Known) (f : Function) → globals ≡ before ++ after → Seen [] before earlier (function_known f known) → function_in functions f.name.bytes ≡ Some f →
-        is_settled f.body ≡ true → Clean (body_walked f (enter (function_known f known))).notes → Allowed (block_forms f.body (parameters_walked f.parameters (enter (function_known f known))).known) → FineHere f
+        is_settled f.body ≡ true → Clean (body_walked f (enter (function_known f known))).notes → Allowed (block_forms f.body (known_inside f known)) → FineAt f known
     function_fine before after earlier known f is s own ok clean allowed =
         let inner = enter (function_known f known) in
         let two = clean_split (parameters_walked f.parameters inner).notes (block_walked f.body (function_context f) (parameters_walked f.parameters inner).known).notes clean in
         let seen = parameters_more f.parameters globals [] [] inner (within globals before after earlier (function_known f known) is s) two.0 in
-        record { own = own; known = (parameters_walked f.parameters inner).known; sees = seen.sees; fresh = seen.fresh; settled = ok; clean = two.1; allowed = allowed }
+        (record { own = own; known = (parameters_walked f.parameters inner).known; sees = seen.sees; fresh = seen.fresh; settled = ok; clean = two.1; allowed = allowed }, refl)
 
     pub items_fine : (xs : List Item) (before : List Declaration) (earlier : List Function) (known : Known) → Seen [] before earlier known → functions ≡ earlier ++ functions_of xs → globals ≡ before ++ outside xs → are_settled xs ≡ true →
-        Clean (items_walked xs known).notes → Allowed (onward item_forms item_behind xs known) → AllByRecursion FineHere (functions_of xs)
+        Clean (items_walked xs known).notes → Allowed (onward item_forms item_behind xs known) → EachFine xs known
     items_fine [] before earlier known s hf hg ok clean allowed = tt
     items_fine (items.Define d ∷ xs) before earlier known s hf hg ok clean allowed =
         let what = declareds.Constant (define_number d) in
@@ -255,3 +266,17 @@ module _ (functions : List Function) where
           function_fine before (outside xs) (earlier ++ f ∷ []) known f hg seen own stood.0 own_notes.1 fs.0,
           items_fine xs before (earlier ++ f ∷ []) next seen (hf ∙ sym (append_assoc earlier (f ∷ []) (functions_of xs))) hg stood.1 two.1 fs.1,
         )
+
+    -- so is each function
+    pub all_are_fine : (xs : List Item) (known : Known) → EachFine xs known → AllByRecursion FineHere (functions_of xs)
+    all_are_fine [] known h = tt
+    all_are_fine (items.Define d ∷ xs) known h = all_are_fine xs (item_behind (items.Define d) known) h
+    all_are_fine (items.Variables v ∷ xs) known h = all_are_fine xs (item_behind (items.Variables v) known) h
+    all_are_fine (items.Function f ∷ xs) known h = (h.0.0, all_are_fine xs (item_behind (items.Function f) known) h.1)
+
+    -- and one behind these items
+    pub fine_behind : (before : List Item) (f : Function) (after : List Item) (known : Known) → EachFine (before ++ items.Function f ∷ after) known → FineAt f (items_walked before known).known
+    fine_behind [] f after known h = h.0
+    fine_behind (items.Define d ∷ xs) f after known h = fine_behind xs f after (item_behind (items.Define d) known) h
+    fine_behind (items.Variables v ∷ xs) f after known h = fine_behind xs f after (item_behind (items.Variables v) known) h
+    fine_behind (items.Function g ∷ xs) f after known h = fine_behind xs f after (item_behind (items.Function g) known) h.1

@@ -3,33 +3,48 @@ use Rattle.std.specs.Prelude.{◌≡◌, ℕ, true, false, List, [], ◌∷◌, 
 use Rattle.cl_value.specs.Plain.{PlainRequest, PlainReply, PlainPart, Eval, PlainStart, Lives}
 use Rattle.cl_ast.specs.declared.tree.Expr.{Expr}
 use Rattle.cl_ast.specs.declared.statement.Stmt.{Stmt}
+use Rattle.cl_ast.specs.declared.statement.Function.{Function}
 use Rattle.cl_ast.specs.declared.statement.Item.{Item}
+use Rattle.cl_ast.specs.declared.statement.Item.TheVariants as items
 use Rattle.cl_meaning.specs.Expressions.{Surroundings, value}
 use Rattle.cl_meaning.specs.Statements.{does}
 use Rattle.cl_meaning.specs.Outer.{functions_of, outer, size_in}
 use Rattle.cl_meaning.specs.Calls.{surroundings, calls}
 use Rattle.cl_meaning.specs.Process.{fixed, demands}
 use Rattle.cl_types.specs.declared.context.Context.{Context}
-use Rattle.cl_types.specs.Notes.{Note, Found, Site, Function}
+use Rattle.cl_types.specs.Notes.{Note, Found, Site}
+use Rattle.cl_types.specs.Notes as notes
+use Rattle.cl_types.specs.Declarations.{Known, enter}
 use Rattle.cl_types.specs.Expressions.{judged}
-use Rattle.cl_types.specs.Statements.{walked}
+use Rattle.cl_types.specs.Statements.{walked, block_walked}
+use Rattle.cl_types.specs.Items.{function_context, function_known, parameters_walked, items_walked, known_first}
 use Rattle.cl_types.specs.Unit.{faults}
 use Rattle.cl_typing.specs.Bodies.{stands, are_settled}
 use Rattle.cl_typing.specs.Values.{ValueIs}
 use Rattle.cl_typing.specs.Standing.{Fits, Scene}
 use Rattle.cl_typing.specs.Steps.{Keeps}
-use Rattle.cl_typing.specs.Texts.{outside, StartFits, IsRequestOf, OutcomeFits}
+use Rattle.cl_typing.specs.Texts.{outside, parameters_declared, StartFits, IsRequestOf, OutcomeFits}
 
 -- no fault is noted
 abbrev pub NoFault : List Note → Type 0
 NoFault [] = Unit {0}
-NoFault (Found fault ∷ notes) = ⊥
-NoFault (Site place ∷ notes) = NoFault notes
-NoFault (Function place ∷ notes) = NoFault notes
+NoFault (Found fault ∷ more) = ⊥
+NoFault (Site place ∷ more) = NoFault more
+NoFault (notes.Function place ∷ more) = NoFault more
 
 -- where a process of this depth may have so many more functions active
 abbrev pub around : List Item → ℕ → ℕ → Surroundings
 around xs depth more = surroundings (fixed xs depth) (calls (fixed xs depth) more)
+
+-- what is known at the statements of a function, where this is known before it
+abbrev pub known_inside : Function → Known → Known
+known_inside f known = (parameters_walked f.parameters (enter (function_known f known))).known
+
+-- There is a scene at the statements of each function, behind any items of the text, where its parameters alone stand inside and no fault is noted.
+abbrev pub FunctionsHaveScenes : Type 0
+FunctionsHaveScenes =
+    (xs : List Item) → faults xs ≡ [] → are_settled xs ≡ true → (before behind : List Item) (f : Function) → xs ≡ before ++ items.Function f ∷ behind →
+    (c : Scene (functions_of xs) (outside xs)) × (c.outer ≡ []) × (c.inner ≡ parameters_declared f.parameters) × (c.known ≡ known_inside f (items_walked before (known_first xs)).known) × NoFault (block_walked f.body (function_context f) c.known).notes
 
 -- An expression in which no fault is noted gives values of the type that is judged of it, whatever is told; and variables stay at the types by
 -- which they are known.

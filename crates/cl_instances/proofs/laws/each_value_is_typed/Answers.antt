@@ -1,5 +1,8 @@
-use Rattle.cl_typing.proofs.Process.{values_are_typed, statements_keep, demands_fit, evals_fit}
+use Rattle.cl_typing.proofs.Process.{functions_have_scenes, values_are_typed, statements_keep, demands_fit, evals_fit}
 use Rattle.cl_instances.proofs.laws.each_value_is_typed.Goals as goal
+
+pub returns-clause-scenes : goal.returns-clause-scenes
+returns-clause-scenes c = functions_have_scenes
 
 pub returns-clause-values : goal.returns-clause-values
 returns-clause-values c = values_are_typed
