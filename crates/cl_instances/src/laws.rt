@@ -1,13 +1,15 @@
-ghost use Rattle.cl_typing.specs.Laws.{FunctionsHaveScenes, ValuesAreTyped, StatementsKeep, DemandsFit, EvalsFit};
+ghost use Rattle.cl_typing.specs.Laws.{FunctionsHaveScenes, StatementsLead, ScopesAreEntered, ValuesAreTyped, StatementsKeep, DemandsFit, EvalsFit};
 ghost use Rattle.cl_instances.specs.Laws.{SourcesAreSettled, OperationsAreApart, ProcessesAreTyped, ActsAreInstances, ProcessesBeganRight};
 
-/// Laws of a text without faults whose declarations stand in blocks. At the statements of each function what
-/// is known stands. Where it does, an expression gives values of the type that is judged of it, whatever its
+/// Laws of a text without faults whose declarations stand in blocks. Where a function begins, behind each
+/// statement and in each scope that is entered, what is known stands. Where it does, an expression gives values of the type that is judged of it, whatever its
 /// process is told, and a statement keeps variables at the types by which they are known. A process that begins as it fits asks for operations of the text, with fields that are as
 /// they were found, and finishes with values of their types; and what an `eval` makes begins as it fits. It
 /// does nothing.
 pub fn each_value_is_typed()
-    ensures scenes { FunctionsHaveScenes }
+    ensures functions { FunctionsHaveScenes }
+    ensures behind { StatementsLead }
+    ensures entered { ScopesAreEntered }
     ensures values { ValuesAreTyped }
     ensures statements { StatementsKeep }
     ensures demands { DemandsFit }

@@ -31,19 +31,20 @@ use Rattle.cl_types.specs.Items.{main_name, is_empty, has_main, items_walked, kn
 use Rattle.cl_types.specs.Unit.{main_notes, faults}
 use Rattle.cl_types.specs.Findings.{Finding, Forms}
 use Rattle.cl_types.specs.Findings as findings_of
-use Rattle.cl_types.specs.Found.{stmt_forms, findings}
+use Rattle.cl_types.specs.Found.{known_behind, stmt_forms, findings}
 use Rattle.cl_types.proofs.Clean.{Clean, clean_split, clean_unit}
 use Rattle.cl_typing.specs.Bodies.{are_settled}
 use Rattle.cl_typing.specs.Values.{IsOf}
 use Rattle.cl_typing.specs.Standing.{FitsScope, Fits, function_in}
 use Rattle.cl_typing.specs.Requests.{AreArguments, Beside, PartSuits, AskSuits, Allows}
 use Rattle.cl_typing.specs.Texts.{outside, parameters_declared, PartFits, StartFits, Becomes, Become, EndFits, AsksAt, IsRequestOf, OutcomeFits}
-use Rattle.cl_typing.specs.Laws.{around, FunctionsHaveScenes, ValuesAreTyped, StatementsKeep, DemandsFit, EvalsFit}
+use Rattle.cl_typing.specs.Laws.{around, FunctionsHaveScenes, StatementsLead, ScopesAreEntered, ValuesAreTyped, StatementsKeep, DemandsFit, EvalsFit}
 use Rattle.cl_typing.specs.Steps.{Leads, Keeps}
 use Rattle.cl_typing.proofs.Leading.{leads_more, right_claim, keeps_bind, keeps_then, keeps_more, keeps_pure}
 use Rattle.cl_typing.proofs.Calling.{GivesResult, Takes, CallsRight, named_is}
 use Rattle.cl_typing.proofs.Expressions.{every_expr}
-use Rattle.cl_typing.proofs.Statements.{every_stmt}
+use Rattle.cl_typing.proofs.Declaring.{inside_sees, entered_sees, entered_fresh}
+use Rattle.cl_typing.proofs.Statements.{same_known, every_stmt}
 use Rattle.cl_typing.proofs.Functions.{Fine, all_in, run_keeps, calls_keep}
 use Rattle.cl_typing.proofs.Outside.{outer_fits}
 use Rattle.cl_typing.proofs.Texts.{first_seen, EachFine, items_fine, all_are_fine, fine_behind}
@@ -187,7 +188,7 @@ functions_have_scenes xs none settled before behind f is =
     let site : ℕ → ℕ = λ place. site_at place (in_items xs) in
     let each = each_fine R xs none settled (nothing_asked text (functions_of xs) site (findings xs)) in
     let fine = fine_behind (functions_of xs) R text site (outside xs) before f behind (known_first xs) (subst (λ ys. EachFine (functions_of xs) R text site (outside xs) ys (known_first xs)) is each) in
-    (record { outer = []; inner = parameters_declared f.parameters; known = fine.0.known; sees = fine.0.sees }, refl, refl, fine.1, fine.0.clean)
+    (record { outer = []; inner = parameters_declared f.parameters; known = fine.0.known; sees = fine.0.sees }, refl, refl, fine.1, fine.0.fresh, fine.0.clean)
 
 pub values_are_typed : ValuesAreTyped
 values_are_typed xs none settled depth more c x clean =
@@ -195,6 +196,18 @@ values_are_typed xs none settled depth more c x clean =
     let fine = nothing_fine xs none settled in
     (every_expr R (around xs depth more) (functions_of xs) (outside xs) (calls_here R xs fine depth more) (λ name vs. refl) x c clean
     (nothing_asked (λ bytes. text_number bytes (texts_of xs)) (functions_of xs) (λ place. site_at place (in_items xs)) (expr_forms x c.known))).0
+
+pub statements_lead : StatementsLead
+statements_lead xs none settled depth more c context x own fresh clean =
+    let R : PlainRequest → Type 0 = λ q. Unit {0} in
+    let fine = nothing_fine xs none settled in
+    let l = (every_stmt R (around xs depth more) (functions_of xs) (outside xs) (calls_here R xs fine depth more) (λ name vs. refl) (size_in (outer xs)) x c context own clean
+    (nothing_asked (λ bytes. text_number bytes (texts_of xs)) (functions_of xs) (λ place. site_at place (in_items xs)) (stmt_forms x c.known))).1 fresh in
+    (record { outer = c.outer; inner = l.inner; known = known_behind x c.known; sees = l.sees }, refl, sym (same_known x context c.known), l.fresh, l.right)
+
+pub scopes_are_entered : ScopesAreEntered
+scopes_are_entered functions globals c =
+    (entered_sees functions globals c.outer c.inner c.known c.sees, entered_fresh c.known, inside_sees functions globals c.outer c.inner c.known c.sees)
 
 pub statements_keep : StatementsKeep
 statements_keep xs none settled depth more c context x own alone clean =

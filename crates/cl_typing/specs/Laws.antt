@@ -14,15 +14,15 @@ use Rattle.cl_meaning.specs.Process.{fixed, demands}
 use Rattle.cl_types.specs.declared.context.Context.{Context}
 use Rattle.cl_types.specs.Notes.{Note, Found, Site}
 use Rattle.cl_types.specs.Notes as notes
-use Rattle.cl_types.specs.Declarations.{Known, enter}
+use Rattle.cl_types.specs.Declarations.{Declaration, Known, enter}
 use Rattle.cl_types.specs.Expressions.{judged}
 use Rattle.cl_types.specs.Statements.{walked, block_walked}
 use Rattle.cl_types.specs.Items.{function_context, function_known, parameters_walked, items_walked, known_first}
 use Rattle.cl_types.specs.Unit.{faults}
 use Rattle.cl_typing.specs.Bodies.{stands, are_settled}
 use Rattle.cl_typing.specs.Values.{ValueIs}
-use Rattle.cl_typing.specs.Standing.{Fits, Scene}
-use Rattle.cl_typing.specs.Steps.{Keeps}
+use Rattle.cl_typing.specs.Standing.{Fits, Sees, Fresh, Scene}
+use Rattle.cl_typing.specs.Steps.{Right, Keeps}
 use Rattle.cl_typing.specs.Texts.{outside, parameters_declared, StartFits, IsRequestOf, OutcomeFits}
 
 -- no fault is noted
@@ -40,11 +40,26 @@ around xs depth more = surroundings (fixed xs depth) (calls (fixed xs depth) mor
 abbrev pub known_inside : Function → Known → Known
 known_inside f known = (parameters_walked f.parameters (enter (function_known f known))).known
 
--- There is a scene at the statements of each function, behind any items of the text, where its parameters alone stand inside and no fault is noted.
+-- Where the statements of a function begin, behind any items of the text, there is a scene: its parameters alone stand inside, and no fault is noted.
 abbrev pub FunctionsHaveScenes : Type 0
 FunctionsHaveScenes =
     (xs : List Item) → faults xs ≡ [] → are_settled xs ≡ true → (before behind : List Item) (f : Function) → xs ≡ before ++ items.Function f ∷ behind →
-    (c : Scene (functions_of xs) (outside xs)) × (c.outer ≡ []) × (c.inner ≡ parameters_declared f.parameters) × (c.known ≡ known_inside f (items_walked before (known_first xs)).known) × NoFault (block_walked f.body (function_context f) c.known).notes
+    (c : Scene (functions_of xs) (outside xs)) × (c.outer ≡ []) × (c.inner ≡ parameters_declared f.parameters) × (c.known ≡ known_inside f (items_walked before (known_first xs)).known)
+    × Fresh c.inner c.known × NoFault (block_walked f.body (function_context f) c.known).notes
+
+-- Behind a statement in which no fault is noted there is a scene of what is known there, and there variables are of the types by which they are known.
+abbrev pub StatementsLead : Type 0
+StatementsLead =
+    (xs : List Item) → faults xs ≡ [] → are_settled xs ≡ true → (depth more : ℕ) (c : Scene (functions_of xs) (outside xs)) (context : Context) (x : Stmt) → (stands x).is_settled ≡ true → Fresh c.inner c.known →
+    NoFault (walked x context c.known).notes →
+    (d : Scene (functions_of xs) (outside xs)) × (d.outer ≡ c.outer) × (d.known ≡ (walked x context c.known).known) × Fresh d.inner d.known
+    × Right (λ (q : PlainRequest). Unit {0}) (Fits (outside xs) (c.outer ++ c.inner ∷ [])) (λ e all. Fits (outside xs) (d.outer ++ d.inner ∷ []) all) (does (around xs depth more) (size_in (outer xs)) x)
+
+-- In a scope that is entered what is known stands, whether or not a scope is entered when it runs.
+abbrev pub ScopesAreEntered : Type 0
+ScopesAreEntered =
+    (functions : List Function) (globals : List Declaration) (c : Scene functions globals) →
+    Sees functions globals (c.outer ++ c.inner ∷ []) [] (enter c.known) × Fresh [] (enter c.known) × Sees functions globals c.outer c.inner (enter c.known)
 
 -- An expression in which no fault is noted gives values of the type that is judged of it, whatever is told; and variables stay at the types by
 -- which they are known.

@@ -1,8 +1,14 @@
-use Rattle.cl_typing.proofs.Process.{functions_have_scenes, values_are_typed, statements_keep, demands_fit, evals_fit}
+use Rattle.cl_typing.proofs.Process.{functions_have_scenes, statements_lead, scopes_are_entered, values_are_typed, statements_keep, demands_fit, evals_fit}
 use Rattle.cl_instances.proofs.laws.each_value_is_typed.Goals as goal
 
-pub returns-clause-scenes : goal.returns-clause-scenes
-returns-clause-scenes c = functions_have_scenes
+pub returns-clause-functions : goal.returns-clause-functions
+returns-clause-functions c = functions_have_scenes
+
+pub returns-clause-behind : goal.returns-clause-behind
+returns-clause-behind c = statements_lead
+
+pub returns-clause-entered : goal.returns-clause-entered
+returns-clause-entered c = scopes_are_entered
 
 pub returns-clause-values : goal.returns-clause-values
 returns-clause-values c = values_are_typed
