@@ -1,5 +1,5 @@
 -- A process of a text without faults, which begins as it fits: each request is one of the text, and what it gives is of the right types.
-use Rattle.std.proofs.Common.{◌≡◌, ◌∙◌, ap, sym, subst, refl, ℕ, suc, Bool, true, false, List, [], ◌∷◌, ◌++◌, length, Some, inl, inr}
+use Rattle.std.proofs.Common.{◌≡◌, ◌∙◌, ap, sym, subst, refl, ℕ, suc, Bool, true, false, List, [], ◌∷◌, ◌++◌, length, Option, Some, None, inl, inr}
 use Rattle.std.specs.Prelude.{slice_get, if◌then◌else◌, pos}
 use Rattle.std.specs.List.{AllByRecursion}
 use Rattle.std.specs.Cmp.Lexicographic.{bytes_decides}
@@ -7,6 +7,7 @@ use Rattle.cl_value.specs.declared.value.Value.{Value}
 use Rattle.cl_value.specs.declared.value.Value.TheVariants.{Int}
 use Rattle.cl_value.specs.Plain.{PlainRequest, PlainReply, Eval, PlainPart, Ready, Call, PlainStart, Main, Lives}
 use Rattle.cl_value.specs.Acts.{fits}
+use Rattle.cl_ast.specs.declared.tree.TypeName.{TypeName}
 use Rattle.cl_ast.specs.declared.tree.Verb.{Verb}
 use Rattle.cl_ast.specs.declared.tree.Verb.TheVariants as verbs
 use Rattle.cl_ast.specs.declared.tree.Field.{Field}
@@ -22,19 +23,23 @@ use Rattle.cl_listing.specs.Listing.{in_items, site_at, texts_of, text_number}
 use Rattle.cl_meaning.specs.Variables.{Variables}
 use Rattle.cl_meaning.specs.Operations.{Does}
 use Rattle.cl_meaning.specs.Outer.{functions_of, outer, size_in}
+use Rattle.cl_meaning.specs.Expressions.{value}
 use Rattle.cl_meaning.specs.Calls.{result_type, function_named, calls, run}
 use Rattle.cl_meaning.specs.Process.{fixed, begun, cells_of_globals, main, called_at, part_does, parts_do, live, process}
 use Rattle.cl_types.specs.declared.fault.TypeKind.TheVariants as kinds
 use Rattle.cl_types.specs.Notes.{found}
+use Rattle.cl_types.specs.Expressions.{judged, constant_of}
 use Rattle.cl_types.specs.Fields.{expr_forms}
 use Rattle.cl_types.specs.Items.{main_name, is_empty, has_main, items_walked, known_first}
 use Rattle.cl_types.specs.Unit.{main_notes, faults}
 use Rattle.cl_types.specs.Findings.{Finding, Forms}
 use Rattle.cl_types.specs.Findings as findings_of
 use Rattle.cl_types.specs.Found.{known_behind, stmt_forms, findings}
+use Rattle.cl_types.specs.EachTyped.{IsFound}
+use Rattle.cl_types.proofs.Inductions.{every_expr as judged_well}
 use Rattle.cl_types.proofs.Clean.{Clean, clean_split, clean_unit}
 use Rattle.cl_typing.specs.Bodies.{are_settled}
-use Rattle.cl_typing.specs.Values.{IsOf}
+use Rattle.cl_typing.specs.Values.{IsOf, IsOfFound, IsFoundNumber, ValueIs}
 use Rattle.cl_typing.specs.Standing.{FitsScope, Fits, function_in}
 use Rattle.cl_typing.specs.Requests.{AreArguments, Beside, PartSuits, AskSuits, Allows}
 use Rattle.cl_typing.specs.Texts.{outside, parameters_declared, PartFits, StartFits, Becomes, Become, EndFits, AsksAt, IsRequestOf, OutcomeFits}
@@ -190,12 +195,19 @@ functions_have_scenes xs none settled before behind f is =
     let fine = fine_behind (functions_of xs) R text site (outside xs) before f behind (known_first xs) (subst (λ ys. EachFine (functions_of xs) R text site (outside xs) ys (known_first xs)) is each) in
     (record { outer = []; inner = parameters_declared f.parameters; known = fine.0.known; sees = fine.0.sees }, refl, refl, fine.1, fine.0.fresh, fine.0.clean)
 
+some_found : (o : Option TypeName) → IsFound o → (t : TypeName) × (o ≡ Some t)
+some_found None h = absurd h
+some_found (Some t) h = (t, refl)
+
 pub values_are_typed : ValuesAreTyped
 values_are_typed xs none settled depth more c x clean =
     let R : PlainRequest → Type 0 = λ q. Unit {0} in
     let fine = nothing_fine xs none settled in
-    (every_expr R (around xs depth more) (functions_of xs) (outside xs) (calls_here R xs fine depth more) (λ name vs. refl) x c clean
-    (nothing_asked (λ bytes. text_number bytes (texts_of xs)) (functions_of xs) (λ place. site_at place (in_items xs)) (expr_forms x c.known))).0
+    let kept = Fits (outside xs) (c.outer ++ c.inner ∷ []) in
+    let found = some_found (judged x c.known).type ((judged_well x c.known).clean clean).0 in
+    let own = (every_expr R (around xs depth more) (functions_of xs) (outside xs) (calls_here R xs fine depth more) (λ name vs. refl) x c clean
+    (nothing_asked (λ bytes. text_number bytes (texts_of xs)) (functions_of xs) (λ place. site_at place (in_items xs)) (expr_forms x c.known))).0 in
+    (found.0, found.1, keeps_more R kept (ValueIs x c.known) (λ v. IsOf found.0 v × IsFoundNumber (constant_of x c.known) v) (value (around xs depth more) x) own (λ v p. (subst (λ o. IsOfFound o v) found.1 p.0, p.1)))
 
 pub statements_lead : StatementsLead
 statements_lead xs none settled depth more c context x own fresh clean =

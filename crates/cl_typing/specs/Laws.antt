@@ -1,6 +1,7 @@
 -- What holds of each text without faults in which declarations stand in blocks. (This project.)
-use Rattle.std.specs.Prelude.{◌≡◌, ℕ, true, false, List, [], ◌∷◌, ◌++◌}
+use Rattle.std.specs.Prelude.{◌≡◌, ℕ, true, false, List, [], ◌∷◌, ◌++◌, Some}
 use Rattle.cl_value.specs.Plain.{PlainRequest, PlainReply, PlainPart, Eval, PlainStart, Lives}
+use Rattle.cl_ast.specs.declared.tree.TypeName.{TypeName}
 use Rattle.cl_ast.specs.declared.tree.Expr.{Expr}
 use Rattle.cl_ast.specs.declared.statement.Stmt.{Stmt}
 use Rattle.cl_ast.specs.declared.statement.Function.{Function}
@@ -15,12 +16,12 @@ use Rattle.cl_types.specs.declared.context.Context.{Context}
 use Rattle.cl_types.specs.Notes.{Note, Found, Site}
 use Rattle.cl_types.specs.Notes as notes
 use Rattle.cl_types.specs.Declarations.{Declaration, Known, enter}
-use Rattle.cl_types.specs.Expressions.{judged}
+use Rattle.cl_types.specs.Expressions.{judged, constant_of}
 use Rattle.cl_types.specs.Statements.{walked, block_walked}
 use Rattle.cl_types.specs.Items.{function_context, function_known, parameters_walked, items_walked, known_first}
 use Rattle.cl_types.specs.Unit.{faults}
 use Rattle.cl_typing.specs.Bodies.{stands, are_settled}
-use Rattle.cl_typing.specs.Values.{ValueIs}
+use Rattle.cl_typing.specs.Values.{IsOf, IsFoundNumber}
 use Rattle.cl_typing.specs.Standing.{Fits, Sees, Fresh, Scene}
 use Rattle.cl_typing.specs.Steps.{Right, Keeps}
 use Rattle.cl_typing.specs.Texts.{outside, parameters_declared, StartFits, IsRequestOf, OutcomeFits}
@@ -61,12 +62,13 @@ ScopesAreEntered =
     (functions : List Function) (globals : List Declaration) (c : Scene functions globals) →
     Sees functions globals (c.outer ++ c.inner ∷ []) [] (enter c.known) × Fresh [] (enter c.known) × Sees functions globals c.outer c.inner (enter c.known)
 
--- An expression in which no fault is noted gives values of the type that is judged of it, whatever is told; and variables stay at the types by
--- which they are known.
+-- An expression in which no fault is noted has a type, and gives values of that type, whatever is told: the number of the constant that it is, if it
+-- is one. And variables stay at the types by which they are known.
 abbrev pub ValuesAreTyped : Type 0
 ValuesAreTyped =
     (xs : List Item) → faults xs ≡ [] → are_settled xs ≡ true → (depth more : ℕ) (c : Scene (functions_of xs) (outside xs)) (x : Expr) → NoFault (judged x c.known).notes →
-    Keeps (λ (q : PlainRequest). Unit {0}) (Fits (outside xs) (c.outer ++ c.inner ∷ [])) (ValueIs x c.known) (value (around xs depth more) x)
+    (t : TypeName) × ((judged x c.known).type ≡ Some t)
+    × Keeps (λ (q : PlainRequest). Unit {0}) (Fits (outside xs) (c.outer ++ c.inner ∷ [])) (λ v. IsOf t v × IsFoundNumber (constant_of x c.known) v) (value (around xs depth more) x)
 
 -- A statement in which no fault is noted, and which is no declaration, keeps variables at the types by which they are known.
 abbrev pub StatementsKeep : Type 0
