@@ -1,6 +1,6 @@
 -- A source that is read as a tree is taken by a run as that tree, or refused in one way.
 use Rattle.std.proofs.Common.{◌≡◌, ℕ, List, [], ◌∷◌, Option, Some, None, Result, Ok, Err, refl, sym, ap, subst, ◌∙◌}
-use Rattle.std.specs.Prelude.{option_map}
+use Rattle.std.specs.Prelude.{option_map, IfErr, IsErrAnd}
 use Rattle.cl_ast.specs.declared.statement.Item.{Item}
 use Rattle.cl_types.specs.declared.fault.Fault.{Fault}
 use Rattle.cl_types.specs.declared.public.TypeEnd.{TypeEnd}
@@ -83,3 +83,8 @@ unread_refuses source refusal is seed options =
 pub unread_ends : (source : List ℕ) (end : FrontEnd) → EndsFront source end → EndsJudging source end
 unread_ends source (ends.Refused refusal) is = unread_refuses source refusal is
 unread_ends source ends.NoMemory is = tt
+
+-- an error that is handed on is the end of the judgment
+pub err_ends : {A : Type 0} (source : List ℕ) (result : Result A FrontEnd) (end : FrontEnd) → IsErrAnd result (λ e. e ≡ end) → EndsJudging source end → IfErr result (EndsJudging source)
+err_ends source (Ok x) end is ends = tt
+err_ends source (Err e) end is ends = subst (λ (other : FrontEnd). EndsJudging source other) (sym is) ends
