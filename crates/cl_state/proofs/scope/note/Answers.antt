@@ -5,11 +5,11 @@ use Rattle.cl_meaning.specs.Variables as plain
 use Rattle.cl_meaning.specs.Variables.{in_scope, set_in, with_element, found_from, has, set_from, declared_in, without_innermost}
 use Rattle.std.specs.List.{list_any}
 use Rattle.cl_state.specs.declared.variable.Variable.{Variable}
-use Rattle.cl_state.specs.Views.{variable_of, scope_of, scopes_of, place_in, innermost, first_or}
-use Rattle.cl_state.proofs.Places.{stands, lacks, stands_inside, lacks_inside, place_set, one_more, noted, declares, map_more, popped}
+use Rattle.cl_state.specs.Views.{first_or}
+use Rattle.cl_state.proofs.Places.{noted}
 use Rattle.std.specs.Cmp.Lexicographic.{pointwise, bytes_decides}
 use Rattle.indexmap.specs.IndexMap.{get, get_by}
-use Rattle.cl_state.proofs.globals.note.Goals as goal
+use Rattle.cl_state.proofs.scope.note.Goals as goal
 
 pub returns-in_ok-insert-in-None-clause-kept : goal.returns-in_ok-insert-in-None-clause-kept
 returns-in_ok-insert-in-None-clause-kept c q =
