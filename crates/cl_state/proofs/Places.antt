@@ -1,5 +1,5 @@
 -- Where variables stand, and what is found and changed there.
-use Rattle.std.proofs.Common.{◌≡◌, ◌<◌, ◌≤◌, ◌+◌, ◌-◌, ℕ, zero, suc, Bool, true, false, List, [], ◌∷◌, ◌++◌, map, length, take, drop, Option, Some, None, refl, sym, ap, ◌∙◌, arith, inl, inr, length-append}
+use Rattle.std.proofs.Common.{◌≡◌, ◌<◌, ◌≤◌, ◌+◌, ℕ, zero, suc, Bool, true, false, List, [], ◌∷◌, ◌++◌, length, drop, Option, Some, None, refl, sym, ap, ◌∙◌, arith, inl, inr, length-append}
 use Rattle.std.specs.Prelude.{option_map, slice_get, slice_set, get_or, if◌then◌else◌}
 use Rattle.std.specs.List.{list_any}
 use Rattle.std.specs.Option.{option_to_list, MatchOption}
@@ -106,64 +106,12 @@ lacks name (v ∷ vs) h =
           }
     ]
 
--- ---- a search from the front, and behind the first few
-
-pub at_index : {A : Type 0} (xs : List A) (i : ℕ) (x : A) → slice_get xs i ≡ Some x → drop i xs ≡ x ∷ drop (suc i) xs
-at_index [] i x h = cc
-at_index (y ∷ xs) zero x h = let same : y ≡ x = cc in ap (λ z. z ∷ xs) same
-at_index (y ∷ xs) (suc i) x h = at_index xs i x h
+-- ---- in all scopes, from the innermost
 
 pub got : {A : Type 0} (xs : List A) (i : ℕ) (x : A) → i < length xs → x ≡ get_or xs i x → slice_get xs i ≡ Some x
 got [] i x few is = absurd (omega arith)
 got (y ∷ xs) zero x few is = ap Some (sym is)
 got (y ∷ xs) (suc i) x few is = got xs i x (omega arith) is
-
-further_none : (o : Option ℕ) → o ≡ further 0 o
-further_none None = refl
-further_none (Some k) = ap Some (omega arith)
-
-further_more : (n : ℕ) (o : Option ℕ) → option_map suc (further n o) ≡ further (suc n) o
-further_more n None = refl
-further_more n (Some k) = ap Some (omega arith)
-
-abbrev or_else : Option ℕ → Option ℕ → Option ℕ
-or_else (Some k) other = Some k
-or_else None other = other
-
-or_else_more : (o other : Option ℕ) → option_map suc (or_else o other) ≡ or_else (option_map suc o) (option_map suc other)
-or_else_more (Some k) other = refl
-or_else_more None other = refl
-
--- a place is one of the first, or it is further behind
-cut : (name : List ℕ) (n : ℕ) (vs : List Variable) → place_in name (scope_of vs) ≡ or_else (place_in name (scope_of (take n vs))) (further n (place_in name (scope_of (drop n vs))))
-cut name zero vs = further_none (place_in name (scope_of vs))
-cut name (suc n) [] = refl
-cut name (suc n) (v ∷ vs) =
-    elim (cases_Bool (same_name name v.name.now)) [
-      | inl same ↦
-          place_yes name (variable_of v) (scope_of vs) same
-          ∙ sym (ap (λ o. or_else o (further (suc n) (place_in name (scope_of (drop n vs))))) (place_yes name (variable_of v) (scope_of (take n vs)) same))
-      | inr other ↦
-          place_no name (variable_of v) (scope_of vs) other
-          ∙ (ap (option_map suc) (cut name n vs)
-          ∙ (or_else_more (place_in name (scope_of (take n vs))) (further n (place_in name (scope_of (drop n vs))))
-          ∙ (ap (or_else (option_map suc (place_in name (scope_of (take n vs))))) (further_more n (place_in name (scope_of (drop n vs))))
-          ∙ sym (ap (λ o. or_else o (further (suc n) (place_in name (scope_of (drop n vs))))) (place_no name (variable_of v) (scope_of (take n vs)) other)))))
-    ]
-
-pub near : (name : List ℕ) (n k : ℕ) (vs : List Variable) → place_in name (scope_of (take n vs)) ≡ Some k → place_in name (scope_of vs) ≡ Some k
-near name n k vs is = cut name n vs ∙ ap (λ o. or_else o (further n (place_in name (scope_of (drop n vs))))) is
-
-pub far : (name : List ℕ) (n : ℕ) (vs : List Variable) → place_in name (scope_of (take n vs)) ≡ None → place_in name (scope_of vs) ≡ further n (place_in name (scope_of (drop n vs)))
-far name n vs is = cut name n vs ∙ ap (λ o. or_else o (further n (place_in name (scope_of (drop n vs))))) is
-
-pub drop_all : {A : Type 0} (n : ℕ) (xs : List A) → length xs ≤ n → drop n xs ≡ []
-drop_all zero [] h = refl
-drop_all zero (x ∷ xs) h = absurd (omega arith)
-drop_all (suc n) [] h = refl
-drop_all (suc n) (x ∷ xs) h = drop_all n xs (omega arith)
-
--- ---- in all scopes, from the innermost
 
 pub inner_found : (name : List ℕ) (ss : List Scope) (k j : ℕ) (s : Scope) → slice_get ss k ≡ Some s → innermost name (drop (suc k) ss) ≡ None → place_in name s ≡ Some j →
     innermost name ss ≡ Some (k, j)
@@ -172,11 +120,6 @@ inner_found name (t ∷ ss) zero j s at none here =
     let same : t ≡ s = cc in
     ap (λ o. inner_or o (place_in name t)) none ∙ ap (inner_or None) (ap (λ (u : Scope). place_in name u) same ∙ here)
 inner_found name (t ∷ ss) (suc k) j s at none here = ap (λ o. inner_or o (place_in name t)) (inner_found name ss k j s at none here)
-
-pub inner_none : (name : List ℕ) (ss : List Scope) (k : ℕ) (s : Scope) → slice_get ss k ≡ Some s → innermost name (drop (suc k) ss) ≡ None → place_in name s ≡ None →
-    innermost name (drop k ss) ≡ None
-inner_none name ss k s at none here =
-    ap (innermost name) (at_index ss k s at) ∙ (ap (λ o. inner_or o (place_in name s)) none ∙ ap (inner_or None) here)
 
 -- the innermost variable of a name, at its place
 pub record StandsInside (name : List ℕ) (k j : ℕ) (ss : List Scope) : Type 0 where
@@ -341,6 +284,12 @@ or_at_further (Some j) n m k test is = refl
 or_at_further None n m k true is = ap Some (sym is)
 or_at_further None n m k false is = refl
 
+drop_all : {A : Type 0} (n : ℕ) (xs : List A) → length xs ≤ n → drop n xs ≡ []
+drop_all zero [] h = refl
+drop_all zero (x ∷ xs) h = absurd (omega arith)
+drop_all (suc n) [] h = refl
+drop_all (suc n) (x ∷ xs) h = drop_all n xs (omega arith)
+
 drop_more : {A : Type 0} (n : ℕ) (xs : List A) (x : A) → n ≤ length xs → drop n (xs ++ x ∷ []) ≡ drop n xs ++ x ∷ []
 drop_more zero xs x many = refl
 drop_more (suc n) [] x many = absurd (omega arith)
@@ -383,10 +332,6 @@ noted own name n old new is none =
     stays : (o : Option ℕ) → pointwise nat_eq own name ≡ false → first_or own n name o ≡ o
     stays (Some k) other = refl
     stays None other = ap (λ test. if test then Some n else None) other
-
-pub map_more : (vs : List Variable) (v : Variable) → scope_of (vs ++ v ∷ []) ≡ scope_of vs ++ variable_of v ∷ []
-map_more [] v = refl
-map_more (u ∷ vs) v = ap (λ xs. variable_of u ∷ xs) (map_more vs v)
 
 pub popped : (before after : List Scope) (o : Option Scope) → before ≡ after ++ option_to_list o → (o ≡ None → after ≡ []) → after ≡ without_innermost before
 popped before after None is none = none refl ∙ sym (ap without_innermost (is ∙ ap (λ (ss : List Scope). ss ++ []) (none refl)))

@@ -1,6 +1,6 @@
 use Rattle.std.proofs.Common.{◌≡◌, ◌∙◌, ◌-◌, ◌≤◌, length, sym, ap, arith, suc, drop, None, Some}
 use Rattle.std.specs.Prelude.{slice_get}
-use Rattle.cl_state.specs.Views.{place_in, innermost}
+use Rattle.cl_state.specs.Views.{innermost}
 use Rattle.cl_state.proofs.Places.{inner_found, got}
 use Rattle.cl_state.proofs.locals.innermost_in.Goals as goal
 

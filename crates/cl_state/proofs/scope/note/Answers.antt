@@ -1,11 +1,4 @@
-use Rattle.std.proofs.Common.{◌≡◌, ◌∙◌, ◌-◌, ◌+◌, ◌≤◌, ◌<◌, ◌∷◌, ◌++◌, [], ℕ, List, length, sym, ap, arith, suc, None, Some, cond, nat_eq, true, false, Bor, Option, subst}
-use Rattle.std.specs.Prelude.{slice_get}
-use Rattle.std.proofs.lemmas.Option.{slice_get_within, get_or_from_slice_get}
-use Rattle.cl_meaning.specs.Variables as plain
-use Rattle.cl_meaning.specs.Variables.{in_scope, set_in, with_element, found_from, has, set_from, declared_in, without_innermost}
-use Rattle.std.specs.List.{list_any}
-use Rattle.cl_state.specs.declared.variable.Variable.{Variable}
-use Rattle.cl_state.specs.Views.{first_or}
+use Rattle.std.proofs.Common.{◌≡◌, ◌∙◌, ℕ, List, sym, ap, None, nat_eq, Bor, Option}
 use Rattle.cl_state.proofs.Places.{noted}
 use Rattle.std.specs.Cmp.Lexicographic.{pointwise, bytes_decides}
 use Rattle.indexmap.specs.IndexMap.{get, get_by}

@@ -1,4 +1,4 @@
-use Rattle.std.proofs.Common.{◌≡◌, ◌∙◌, ◌<◌, sym, ap}
+use Rattle.std.proofs.Common.{◌∙◌, sym, ap}
 use Rattle.cl_meaning.specs.Variables.{set_in, with_element}
 use Rattle.cl_state.proofs.Places.{stands, lacks}
 use Rattle.cl_state.proofs.globals.Globals.assign.Goals as goal

@@ -1,4 +1,4 @@
-use Rattle.std.proofs.Common.{◌≡◌, ◌∙◌, ◌<◌, sym, ap, arith, Some}
+use Rattle.std.proofs.Common.{◌≡◌, ◌∙◌, sym, ap}
 use Rattle.cl_meaning.specs.Variables.{in_scope}
 use Rattle.cl_state.specs.Views.{variable_of}
 use Rattle.cl_state.proofs.Places.{stands, lacks}

@@ -1,4 +1,4 @@
-use Rattle.std.proofs.Common.{◌≡◌, ◌∙◌, ◌-◌, ◌<◌, length, ap, arith, suc}
+use Rattle.std.proofs.Common.{◌≡◌, ◌∙◌, ◌-◌, length, ap, arith, suc}
 use Rattle.cl_meaning.specs.Variables.{declared_in}
 use Rattle.cl_state.specs.Views.{variable_of}
 use Rattle.cl_state.proofs.Places.{declares, got}

@@ -1,8 +1,7 @@
-use Rattle.std.proofs.Common.{◌≡◌, ◌∙◌, ◌<◌, length, sym, ap, arith, Some}
+use Rattle.std.proofs.Common.{◌≡◌, ◌∙◌, length, sym, ap, arith}
 use Rattle.std.specs.Prelude.{slice_get, slice_set}
 use Rattle.cl_meaning.specs.Variables as plain
 use Rattle.cl_meaning.specs.Variables.{Scope, with_element}
-use Rattle.cl_state.specs.declared.variable.Variable.{Variable}
 use Rattle.cl_state.specs.declared.scope.TheConstants.{FEW}
 use Rattle.cl_state.specs.Views.{variable_of, scope_of, further}
 use Rattle.cl_state.proofs.Places.{got, set_seen, get_seen, place_set_behind, length_seen}
