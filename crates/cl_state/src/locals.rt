@@ -1,23 +1,40 @@
 use crate::Variable;
-use crate::scope::{innermost_in, set_element};
+use crate::scope::Scope;
 use cl_value::Value;
 use std::alloc::{AllocError, Global};
 use std::marker::Model;
 
-/// The scopes of a function that is active. Contracts see each scope, the innermost last. (ISO/IEC 9899:1999, 6.2.1.)
+/// The scopes of a function that is active. Contracts see each scope, the innermost last. A look-up hashes the name at most once for each scope.
+/// (ISO/IEC 9899:1999, 6.2.1.)
 #[derive(Drop)]
 pub struct Locals<'a> {
-    scopes: Vec<Vec<Variable<'a>>>,
+    scopes: Vec<Scope<'a>>,
 }
 
 impl<'a> Model for Locals<'a> {
-    ghost use Rattle.std.specs.Prelude.{List, map};
-    ghost use Rattle.cl_meaning.specs.Variables.{Scope};
-    ghost use Rattle.cl_state.specs.Views.{scopes_of};
+    ghost use Rattle.std.specs.Prelude.{List};
+    ghost use Rattle.cl_meaning.specs.Variables as plain;
 
-    ghost Value = { List Scope };
+    ghost Value = { List plain.Scope };
 
-    ghost view = { λ l. scopes_of l.scopes.items };
+    ghost view = { λ l. l.scopes.items };
+}
+
+ghost use Rattle.std.specs.Prelude.{◌≡◌};
+ghost use Rattle.cl_state.specs.Views.{innermost};
+
+/// The place of the innermost variable of a name: the number of its scope, and its own in that.
+fn innermost_in(scopes: &[Scope<'_>], name: &[u8]) -> Option<(usize, usize)>
+    ensures { result ≡ innermost name.now scopes.now }
+{
+    let mut inner = scopes.len();
+    while inner > 0 {
+        inner -= 1;
+        if let Some(index) = scopes[inner].place_of(name) {
+            return Some((inner, index));
+        }
+    }
+    None
 }
 
 impl<'a> Locals<'a> {
@@ -41,7 +58,7 @@ impl<'a> Locals<'a> {
         ensures { (outer : plain.Variable) → found_from name.now self.now outer ≡ found_or outer result }
     {
         match innermost_in(&self.scopes, name) {
-            Some((scope, index)) => Some(&self.scopes[scope][index]),
+            Some((scope, index)) => Some(self.scopes[scope].variable_at(index)),
             None => None,
         }
     }
@@ -53,7 +70,7 @@ impl<'a> Locals<'a> {
     {
         match innermost_in(&self.scopes, name) {
             Some((scope, index)) => {
-                set_element(&mut self.scopes[scope][index], at, value);
+                self.scopes[scope].set(index, at, value);
                 true
             }
             None => false,
@@ -65,7 +82,7 @@ impl<'a> Locals<'a> {
         ensures entered { OnOk result (self.new ≡ self.old ++ [] ∷ []) }
     {
         self.scopes.reserve(1)?;
-        self.scopes.push_reserved(Vec::new(alloc));
+        self.scopes.push_reserved(Scope::new(alloc));
         Ok(())
     }
 
@@ -82,9 +99,7 @@ impl<'a> Locals<'a> {
     {
         let count = self.scopes.len();
         if count > 0 {
-            let scope = &mut self.scopes[count - 1];
-            scope.reserve(1)?;
-            scope.push_reserved(variable);
+            self.scopes[count - 1].add(variable)?;
         }
         Ok(())
     }

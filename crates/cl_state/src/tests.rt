@@ -110,6 +110,11 @@ fn int<'a>(alloc: Global, name: &'a [u8], n: i32) -> Result<Variable<'a>, AllocE
     })
 }
 
+// The first value of what was found.
+fn value_of(found: Option<&Variable<'_>>) -> Option<Value> {
+    found.and_then(|found| found.values.first().copied())
+}
+
 #[test]
 fn an_inner_name_hides_until_its_scope_ends(rt: HostRuntime) -> Result<(), Fail> {
     let alloc = rt.alloc();
@@ -120,15 +125,9 @@ fn an_inner_name_hides_until_its_scope_ends(rt: HostRuntime) -> Result<(), Fail>
     locals.declare(int(alloc, b"a", 2)?)?;
     assert!(rt; locals.assign(b"a", 0, Value::Int(3)));
     assert!(rt; !locals.assign(b"b", 0, Value::Int(3)));
-    let inner = locals
-        .find(b"a")
-        .and_then(|found| found.values.first().copied());
-    assert_eq!(rt; inner, Some(Value::Int(3)));
+    assert_eq!(rt; value_of(locals.find(b"a")), Some(Value::Int(3)));
     locals.leave();
-    let outer = locals
-        .find(b"a")
-        .and_then(|found| found.values.first().copied());
-    assert_eq!(rt; outer, Some(Value::Int(1)));
+    assert_eq!(rt; value_of(locals.find(b"a")), Some(Value::Int(1)));
     assert!(rt; locals.find(b"b").is_none());
     Ok(())
 }
@@ -142,13 +141,44 @@ fn the_first_global_of_a_name_counts(rt: HostRuntime) -> Result<(), Fail> {
     globals.add(int(alloc, b"a", 3)?)?;
     globals.assign(b"b", 0, Value::Int(4));
     globals.assign(b"c", 0, Value::Int(5));
-    let a = globals
-        .find(b"a")
-        .and_then(|found| found.values.first().copied());
-    let b = globals
-        .find(b"b")
-        .and_then(|found| found.values.first().copied());
-    assert_eq!(rt; a, Some(Value::Int(1)));
-    assert_eq!(rt; b, Some(Value::Int(4)));
+    assert_eq!(rt; value_of(globals.find(b"a")), Some(Value::Int(1)));
+    assert_eq!(rt; value_of(globals.find(b"b")), Some(Value::Int(4)));
+    Ok(())
+}
+
+#[test]
+fn each_of_many_locals_is_found(rt: HostRuntime) -> Result<(), Fail> {
+    let alloc = rt.alloc();
+    let mut names = Vec::new(alloc);
+    for n in 0..300_i32 {
+        names.push((format!(in alloc; "n{n}")?, n))?;
+    }
+    let mut locals = Locals::new(alloc);
+    locals.enter(alloc)?;
+    for (name, n) in &names {
+        locals.declare(int(alloc, name.as_bytes(), *n)?)?;
+    }
+    locals.declare(int(alloc, b"n0", -1)?)?;
+    locals.declare(int(alloc, b"n299", -1)?)?;
+    locals.enter(alloc)?;
+    for (name, n) in &names {
+        if *n % 3 == 0 {
+            locals.declare(int(alloc, name.as_bytes(), !*n)?)?;
+        }
+    }
+    for (name, n) in &names {
+        let wanted = if *n % 3 == 0 { !*n } else { *n };
+        let found = value_of(locals.find(name.as_bytes()));
+        assert_eq!(rt; found, Some(Value::Int(wanted)));
+    }
+    assert!(rt; locals.assign(b"n297", 0, Value::Int(7)));
+    assert!(rt; locals.assign(b"n299", 0, Value::Int(8)));
+    assert!(rt; !locals.assign(b"n300", 0, Value::Int(9)));
+    assert_eq!(rt; value_of(locals.find(b"n297")), Some(Value::Int(7)));
+    locals.leave();
+    assert_eq!(rt; value_of(locals.find(b"n0")), Some(Value::Int(0)));
+    assert_eq!(rt; value_of(locals.find(b"n297")), Some(Value::Int(297)));
+    assert_eq!(rt; value_of(locals.find(b"n299")), Some(Value::Int(8)));
+    assert!(rt; locals.find(b"n300").is_none());
     Ok(())
 }

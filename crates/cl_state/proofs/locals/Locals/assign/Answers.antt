@@ -1,14 +1,10 @@
-use Rattle.std.proofs.Common.{◌≡◌, ◌∙◌, ◌-◌, ◌+◌, ◌≤◌, ◌<◌, ◌∷◌, ◌++◌, [], ℕ, List, length, sym, ap, arith, suc, None, Some, cond, nat_eq, true, false, Bor, Option, subst}
-use Rattle.std.specs.Prelude.{slice_get}
-use Rattle.std.proofs.lemmas.Option.{slice_get_within, get_or_from_slice_get}
-use Rattle.cl_meaning.specs.Variables as plain
-use Rattle.cl_meaning.specs.Variables.{in_scope, set_in, with_element, found_from, has, set_from, declared_in, without_innermost}
+use Rattle.std.proofs.Common.{◌≡◌, ◌∙◌, length, sym, ap, arith, Some}
+use Rattle.std.specs.Prelude.{slice_get, slice_set}
 use Rattle.std.specs.List.{list_any}
-use Rattle.std.specs.Prelude.{slice_set}
-use Rattle.std.specs.Global.{Vec}
-use Rattle.cl_state.specs.declared.variable.Variable.{Variable}
-use Rattle.cl_state.specs.Views.{variable_of, scope_of, scopes_of, place_in, innermost, first_or}
-use Rattle.cl_state.proofs.Places.{stands, lacks, stands_inside, lacks_inside, place_set, one_more, noted, declares, map_more, popped}
+use Rattle.std.proofs.lemmas.Option.{get_or_from_slice_get}
+use Rattle.cl_meaning.specs.Variables.{Scope, has, set_from, with_element}
+use Rattle.cl_state.specs.Views.{innermost}
+use Rattle.cl_state.proofs.Places.{stands_inside, lacks_inside}
 use Rattle.cl_state.proofs.locals.Locals.assign.Goals as goal
 
 pub index_mut-requires : goal.index_mut-requires
@@ -18,14 +14,13 @@ index_mut-requires c =
     let long = c.self.inside.scopes.ok.0 in
     omega (arith, within, long)
 
-pub index_mut-requires-in-Some : goal.index_mut-requires-in-Some
-index_mut-requires-in-Some c =
+pub set-requires : goal.set-requires
+set-requires c =
     let st = stands_inside c.args.name.now c.in-Some.scope c.in-Some.index c.self.inside.scopes.items (sym (c.in-Some.ensures ∙ ap (innermost c.args.name.now) c.deref.ensures.value)) in
     let same = c.index_mut.ensures.value ∙ get_or_from_slice_get c.self.inside.scopes.items c.in-Some.scope st.scope c.index_mut.result.now st.scope_at in
     let within = st.inside.within in
-    let long = c.index_mut.result.now.ok.0 in
-    let equal = ap (λ (s : Vec Variable). length s.items) same in
-    omega (arith, within, long, equal)
+    let equal = ap (λ (s : Scope). length s) same in
+    omega (arith, within, equal)
 
 pub returns-in-Some-clause-told : goal.returns-in-Some-clause-told
 returns-in-Some-clause-told c =
@@ -34,13 +29,13 @@ returns-in-Some-clause-told c =
 
 pub returns-in-Some-clause-changed : goal.returns-in-Some-clause-changed
 returns-in-Some-clause-changed c =
-    let st = stands_inside c.args.name.now c.in-Some.scope c.in-Some.index c.self.inside.scopes.items (sym (c.in-Some.ensures ∙ ap (innermost c.args.name.now) c.deref.ensures.value)) in
+    let name = c.args.name.now in
+    let st = stands_inside name c.in-Some.scope c.in-Some.index c.self.inside.scopes.items (sym (c.in-Some.ensures ∙ ap (innermost name) c.deref.ensures.value)) in
     let same = c.index_mut.ensures.value ∙ get_or_from_slice_get c.self.inside.scopes.items c.in-Some.scope st.scope c.index_mut.result.now st.scope_at in
     let change = with_element c.args.at c.args.value in
-    let at : slice_get c.index_mut.result.now.items c.in-Some.index ≡ Some st.inside.variable = ap (λ (s : Vec Variable). slice_get s.items c.in-Some.index) same ∙ st.inside.at in
-    let is = c.index_mut-in-Some.ensures.value ∙ get_or_from_slice_get c.index_mut.result.now.items c.in-Some.index st.inside.variable c.index_mut-in-Some.result.now at in
-    let set = st.inside.set change c.set_element.new.variable (c.set_element.ensures ∙ ap (λ v. change (variable_of v)) is) in
-    st.set change _ (ap (λ (s : Vec Variable). scope_of (slice_set s.items c.in-Some.index c.set_element.new.variable)) same ∙ set) ∙ ap (set_from c.args.name.now change) c.self.view_is
+    let at : slice_get c.index_mut.result.now c.in-Some.index ≡ Some st.inside.variable = ap (λ (s : Scope). slice_get s c.in-Some.index) same ∙ st.inside.at in
+    let set = c.set.ensures st.inside.variable at ∙ (ap (λ (s : Scope). slice_set s c.in-Some.index (change st.inside.variable)) same ∙ st.inside.set change) in
+    ap (slice_set c.self.inside.scopes.items c.in-Some.scope) set ∙ (st.set change ∙ ap (set_from name change) c.self.view_is)
 
 pub returns-in-None-clause-told : goal.returns-in-None-clause-told
 returns-in-None-clause-told c =
