@@ -37,7 +37,7 @@ ghost use Rattle.std.specs.Prelude.{◌≡◌, ◌+◌, MatchResult};
 /// How many parts may be walked inside one another, in all functions that are active together, so that the host's
 /// stack has a bound. One function alone never comes there: each of the at most 64 constructs that the parser takes
 /// inside one another gives no more than eight levels of the tree.
-pub const MAX_NESTING: u32 = 4_096;
+pub const MAX_NESTING: u32 = 10_000;
 
 /// One part deeper. `NoMemory` comes where no more may be.
 pub fn deeper(nesting: u32) -> Result<u32, Stop>
