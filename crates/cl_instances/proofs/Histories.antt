@@ -6,7 +6,7 @@ use Rattle.cl_value.specs.declared.value.Value.{Value}
 use Rattle.cl_value.specs.Plain.{PlainPart, Eval, Land, PlainRequest, PlainReply, PlainStart, Main, Lives, PlainWhat, DidOut, DidIn, DidRd, InpHit, InpMiss, RdpHit, RdpMiss, DidEval, DidLand, PlainAct}
 use Rattle.cl_value.specs.Acts.{is_eval}
 use Rattle.cl_ast.specs.declared.statement.Item.{Item}
-use Rattle.cl_model.specs.Demand.{Wants, Finishes}
+use Rattle.cl_model.specs.Demand.{Outcome, Wants, Finishes, Traps, Misfit}
 use Rattle.cl_model.specs.Machine.{Process, State, fresh, first, told, depth_of, made_by, made_in, changed, BeganAt, DemandAllows, MayCome, after_from, StepsFrom, Legal, after}
 use Rattle.cl_listing.specs.Listing.{in_items}
 use Rattle.cl_listing.specs.Listed.{sites_in}
@@ -21,6 +21,7 @@ use Rattle.cl_typing.specs.Bodies.{are_settled}
 use Rattle.cl_typing.specs.Texts.{StartFits, Become, IsRequestOf, OutcomeFits}
 use Rattle.cl_typing.proofs.Process.{demands_fit, evals_fit}
 use Rattle.cl_instances.specs.Apart.{are_apart}
+use Rattle.cl_instances.specs.Sets.{Begins, AsksFor}
 use Rattle.cl_instances.specs.Sources.{IsInstance}
 use Rattle.cl_instances.proofs.Requests.{request_instance, landing_fits}
 
@@ -38,10 +39,8 @@ landed_at (Some s) live vs h is = by s.kind h
     by kinds.Rdp h = absurd cc
 
 module _ (xs : List Item) (none : faults xs ≡ []) (settled : are_settled xs ≡ true) (apart : are_apart (sites_in (in_items xs)) ≡ true) (ticks : ℕ) where
-  -- it began as it fits, and a live tuple is an instance of its `eval`
   abbrev pub Began : PlainStart → Type 0
-  Began Main = Unit {0}
-  Began (Lives site live depth) = StartFits xs (Lives site live depth) × (is_of_its_site (signatures_of xs) (record { site = site; ask = Eval live }) ≡ true)
+  Began start = Begins xs start
 
   pub began_fits : (start : PlainStart) → Began start → StartFits xs start
   began_fits Main h = tt
@@ -60,6 +59,28 @@ module _ (xs : List Item) (none : faults xs ≡ []) (settled : are_settled xs �
 
   asked : (q : PlainRequest) → IsRequestOf xs q → is_of_its_site (signatures_of xs) q ≡ true
   asked q h = request_instance xs none apart q h
+
+  -- what it asks for is an instance, and what its `eval` makes begins as it did
+  pub asks_instance : (start : PlainStart) (replies : List PlainReply) (q : PlainRequest) → Began start → AsksFor start (demands xs ticks start replies).outcome q → is_of_its_site (signatures_of xs) q ≡ true
+  asks_instance start replies q h asks = by (demands xs ticks start replies).outcome refl asks
+    where
+      by : (o : Outcome) → (demands xs ticks start replies).outcome ≡ o → AsksFor start o q → is_of_its_site (signatures_of xs) q ≡ true
+      by (Wants other) e same = subst (λ r. is_of_its_site (signatures_of xs) r ≡ true) same (asked other (wanted start replies other h e))
+      by (Finishes vs) e both = ap (is_instance_at (slice_get (signatures_of xs) q.site)) both.0 ∙ landed start replies vs q.site h e both.1
+      by (Traps t) e none = absurd none
+      by Misfit e none = absurd none
+
+  pub live_began : (start : PlainStart) (replies : List PlainReply) (q : PlainRequest) → Began start → AsksFor start (demands xs ticks start replies).outcome q → (live : List PlainPart) (depth : ℕ) → q.ask ≡ Eval live → Began (Lives q.site live depth)
+  live_began start replies q h asks live depth is = by (demands xs ticks start replies).outcome refl asks
+    where
+      by : (o : Outcome) → (demands xs ticks start replies).outcome ≡ o → AsksFor start o q → Began (Lives q.site live depth)
+      by (Wants other) e same =
+          let request : IsRequestOf xs q = subst (IsRequestOf xs) same (wanted start replies other h e) in
+          (evals_fit xs q live depth request is, ap (is_instance_at (slice_get (signatures_of xs) q.site)) (sym is) ∙ asked q request)
+      by (Finishes vs) e both =
+          let clash : Eval live ≡ Land vs = sym is ∙ both.0 in absurd cc
+      by (Traps t) e none = absurd none
+      by Misfit e none = absurd none
 
   -- by what was done
   act_instance : (ticket proc site : ℕ) (what : PlainWhat) (start : PlainStart) (replies : List PlainReply) → Began start →

@@ -4,4 +4,5 @@ pub mod Numbers
 pub mod Order
 pub mod Requests
 pub mod Rising
+pub mod Sets
 pub mod Sources

@@ -1,3 +1,5 @@
 pub mod Apart
 pub mod Laws
+pub mod SetLaws
+pub mod Sets
 pub mod Sources

@@ -1,4 +1,5 @@
 ghost use Rattle.cl_typing.specs.Laws.{FunctionsHaveScenes, StatementsLead, ScopesAreEntered, ValuesAreTyped, StatementsKeep, DemandsFit, EvalsFit};
+ghost use Rattle.cl_instances.specs.SetLaws.{RequestsAreInstances, LiveTuplesBegin, ProcessesBegin, HistoriesAreInstances, InstancesSuit, HistoriesSuit, InstancesNeverMatch, HistoriesNeverMatch};
 ghost use Rattle.cl_instances.specs.Laws.{SourcesAreSettled, OperationsAreApart, ProcessesAreTyped, ActsAreInstances, ProcessesBeganRight};
 
 /// Laws of a text without faults whose declarations stand in blocks. Where a function begins, behind each
@@ -30,4 +31,32 @@ pub fn each_act_is_an_instance()
     ensures processes { ProcessesAreTyped }
     ensures acts { ActsAreInstances }
     ensures starts { ProcessesBeganRight }
+{}
+
+/// Laws of a source that is read without faults. What a process that begins as it fits asks for, whatever it
+/// is told, is an instance of the signature of its site, the landing of what it finishes with too; and what
+/// its `eval` makes begins as it fits. So it is with each process and each request of a legal history. It
+/// does nothing.
+pub fn each_request_is_an_instance()
+    ensures requests { RequestsAreInstances }
+    ensures live { LiveTuplesBegin }
+    ensures starts { ProcessesBegin }
+    ensures histories { HistoriesAreInstances }
+{}
+
+/// Laws of the sets of a text's operations, however they are found. A request that is an instance of the
+/// signature of its site is at a site of a set, whose shape it suits; and so does each request of a legal
+/// history of a source that is read without faults, of its acts and of the processes that stand behind them,
+/// landings too. It does nothing.
+pub fn each_request_suits_its_set()
+    ensures instances { InstancesSuit }
+    ensures histories { HistoriesSuit }
+{}
+
+/// Laws of two sets. The tuple that a request at a site of one adds matches no template with which a request
+/// at a site of the other asks, where both are instances of their sites' signatures, as all requests of a
+/// legal history are. It does nothing.
+pub fn acts_of_two_sets_never_match()
+    ensures instances { InstancesNeverMatch }
+    ensures histories { HistoriesNeverMatch }
 {}
