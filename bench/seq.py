@@ -26,6 +26,14 @@ def arithmetic_here(count):
     return total
 
 
+def arithmetic_step_by_step_here(count):
+    total = i = 0
+    while i < count:
+        total += i % 7
+        i += 1
+    return total
+
+
 # So many acts, half of them `out`s: a history has at most 1,048,576.
 def tuples(count):
     return (
@@ -118,7 +126,8 @@ def main():
     program = os.path.abspath(sys.argv[1])
     print("| Loop | n | seconds | against n / 10 | MB | python3, seconds | against python3 |")
     print("|---|---|---|---|---|---|---|")
-    loops(program, "arithmetic", arithmetic, arithmetic_here)
+    loops(program, "arithmetic, python3 over a range", arithmetic, arithmetic_here)
+    loops(program, "arithmetic, python3 step by step", arithmetic, arithmetic_step_by_step_here)
     loops(program, "tuples, n acts", tuples, tuples_here)
     print()
     print("| Source | variables, and as many uses | bytes | seconds | against a tenth | MB |")
