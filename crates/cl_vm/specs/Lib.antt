@@ -12,3 +12,4 @@ pub mod Asks
 pub mod Hears
 pub mod Outermost
 pub mod Processes
+pub mod Trials

@@ -18,6 +18,8 @@ mod requests;
 mod resuming;
 mod starting;
 mod step;
+#[cfg(test)]
+mod tests;
 mod values;
 mod vm;
 
