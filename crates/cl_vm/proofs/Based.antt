@@ -1,9 +1,9 @@
 -- How many cells are in use without the functions that are waited for.
-use Rattle.std.proofs.Common.{◌≡◌, ℕ, suc, ◌+◌, ◌-◌, ◌≤◌, List, [], ◌∷◌, length, sym, ap, ◌∙◌, subst, arith}
+use Rattle.std.proofs.Common.{◌≡◌, ℕ, suc, ◌+◌, List, ◌∷◌, length, sym, ap, ◌∙◌, subst, arith}
 use Rattle.std.specs.Prelude.{ℤ}
 use Rattle.cl_code.specs.Plain.{PlainFunction}
 use Rattle.cl_code.specs.Machine.{Does, Frame, Stack, Way}
-use Rattle.cl_vm.specs.Engine.{ActsAs, Calls, IsNear, Returns, Shown, Ticks, entered, left_with, with_number}
+use Rattle.cl_vm.specs.Engine.{ActsAs, Calls, IsNear, Returns, Shown, Ticks, left_with, with_number}
 use Rattle.cl_vm.specs.Runs.{BasedOn, IsBased, claims}
 use Rattle.cl_vm.specs.declared.engine.Engine.{Engine}
 use Rattle.cl_vm.specs.declared.engine.Flow.{Flow}

@@ -1,17 +1,16 @@
 -- How a process begins, and how it goes on behind a reply.
-use Rattle.std.proofs.Common.{◌≡◌, ℕ, zero, suc, ◌<◌, ◌≤◌, Bool, true, false, List, [], ◌∷◌, ◌++◌, length, drop, Option, Some, None, refl, sym, ap, ◌∙◌, subst, arith}
-use Rattle.std.specs.Prelude.{map, slice_get, if◌then◌else◌}
+use Rattle.std.proofs.Common.{◌≡◌, ℕ, ◌<◌, ◌≤◌, Bool, true, false, List, [], ◌∷◌, length, drop, Option, Some, None, refl, sym, ap, ◌∙◌, subst, arith}
+use Rattle.std.specs.Prelude.{map, if◌then◌else◌}
 use Rattle.cl_value.specs.Acts.{fits}
 use Rattle.cl_value.specs.LiveViews.{plain_part}
-use Rattle.cl_value.specs.Plain.{PlainPart, PlainReply, PlainRequest, PlainStart, Main, Lives}
-use Rattle.cl_value.specs.Views.{plain_ask, plain_request}
+use Rattle.cl_value.specs.Plain.{PlainPart, PlainReply, PlainStart, Main, Lives}
+use Rattle.cl_value.specs.Views.{plain_ask}
 use Rattle.cl_value.specs.declared.live.LiveField.{LiveField}
 use Rattle.cl_value.specs.declared.process.Trap.TheVariants.{CellLimit}
 use Rattle.cl_value.specs.declared.request.Request.{Request}
 use Rattle.cl_value.specs.declared.value.Value.{Value}
 use Rattle.cl_model.specs.Demand.{Misfit}
 use Rattle.cl_model.specs.Doing.{Stops}
-use Rattle.cl_sig.specs.Signatures.{PlainSignature}
 use Rattle.cl_code.specs.Laws.{IsNeverWrong}
 use Rattle.cl_code.specs.Plain.{PlainProgram}
 use Rattle.cl_code.specs.Process.{CodeDemand, Goes, code_demand, code_demand_of}
@@ -20,7 +19,7 @@ use Rattle.cl_vm.specs.Asks.{at_operation, count_at, told_engine}
 use Rattle.cl_vm.specs.Engine.{Behind, onward}
 use Rattle.cl_vm.specs.Hears.{Fits, Heard}
 use Rattle.cl_vm.specs.Outermost.{IsSound, behind_call, between}
-use Rattle.cl_vm.specs.Processes.{EntersAt, FitsRequest, HasClaimed, IsHeld, IsNew, Stood, came_of, request_of, rest_of}
+use Rattle.cl_vm.specs.Processes.{EntersAt, FitsRequest, HasClaimed, IsHeld, IsNew, Stood, rest_of}
 use Rattle.cl_vm.specs.Runs.{IsBased}
 use Rattle.cl_vm.specs.declared.engine.Engine.{Engine}
 use Rattle.cl_vm.specs.declared.starting.Progress.{Progress}

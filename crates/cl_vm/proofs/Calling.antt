@@ -1,13 +1,13 @@
 -- Functions that nothing waits for: how they are entered, and what their results come to.
-use Rattle.std.proofs.Common.{◌≡◌, ℕ, zero, suc, ◌+◌, ◌-◌, ◌*◌, ◌<◌, ◌≤◌, Bool, true, false, List, [], ◌∷◌, ◌++◌, length, Option, Some, None, refl, sym, ap, ◌∙◌, subst, arith, length-append}
+use Rattle.std.proofs.Common.{◌≡◌, ℕ, zero, suc, ◌+◌, ◌-◌, ◌<◌, ◌≤◌, Bool, true, false, List, [], ◌∷◌, ◌++◌, length, Option, Some, None, refl, sym, ap, ◌∙◌, subst, arith, length-append}
 use Rattle.std.proofs.Math.Path.{fun_ext}
 use Rattle.std.proofs.lemmas.Bool.{lt-ltb, le-ltb}
 use Rattle.std.proofs.lemmas.List.{length-replicate}
-use Rattle.std.specs.Prelude.{ℤ, Ok, Err, pos, map, slice_get, nat_lt, replicate, vec_capacity, if◌then◌else◌}
+use Rattle.std.specs.Prelude.{ℤ, Ok, Err, pos, map, slice_get, nat_lt, replicate, if◌then◌else◌}
 use Rattle.cl_value.specs.declared.value.Value.{Value}
 use Rattle.cl_value.specs.declared.value.FieldType.{FieldType}
 use Rattle.cl_value.specs.declared.process.Trap.TheVariants.{CellLimit, StepLimit}
-use Rattle.cl_value.specs.Plain.{PlainPart, Ready, Call, PlainReply, PlainStart, Main, Lives}
+use Rattle.cl_value.specs.Plain.{PlainPart, Ready, Call, PlainReply, Main, Lives}
 use Rattle.cl_model.specs.Doing.{Checked, Steps, Gives, Prints, Asks, Stops, State, then_do, ◌>>=◌, ◌>>◌, pure, trap, tick, counted, claim, release, checked, variables, set_variables}
 use Rattle.cl_model.specs.Numbers.{number, and_then}
 use Rattle.cl_code.specs.Plain.{PlainFunction, PlainProgram}
@@ -16,7 +16,7 @@ use Rattle.cl_code.specs.Positions.{Reached, entry_of}
 use Rattle.cl_code.specs.Positions as positions
 use Rattle.cl_code.specs.Process.{CodeDemand, Wrong, code_demand, code_demand_of, end_after, main, live, process, begun, function_does, part_does, parts_do, ending_as, result_as, type_given, alone}
 use Rattle.cl_code.specs.Machine.{Cells, Does, Ending, Frame, frame_of, set_frame, machine}
-use Rattle.cl_vm.specs.Begins.{AreMost, IsFresh, progress_of}
+use Rattle.cl_vm.specs.Begins.{IsFresh, progress_of}
 use Rattle.cl_vm.specs.Engine.{Behind, state_of, onward}
 use Rattle.cl_vm.specs.Outermost.{IsIdle, behind_call, between, came, first_entered, handed}
 use Rattle.cl_vm.specs.Runs.{callers_of, claims, position_of, stacked, celled, AreLow, AreSized, IsBased, IsSafe, IsRoomy, Runs}

@@ -5,7 +5,7 @@ use Rattle.std.specs.List.{list_all}
 use Rattle.std.specs.Prelude.{ℤ, Result, Ok, Err, OnOk, map, remove, slice_get}
 use Rattle.cl_value.specs.Room.{Room, capacity_of, HasRoom}
 use Rattle.cl_value.specs.LiveViews.{plain_part}
-use Rattle.cl_value.specs.Plain.{PlainPart, Ready, Call}
+use Rattle.cl_value.specs.Plain.{PlainPart, Call}
 use Rattle.cl_value.specs.declared.live.LiveField.{LiveField}
 use Rattle.cl_value.specs.declared.live.LiveField.TheVariants as live
 use Rattle.cl_value.specs.declared.process.Trap.{Trap}
@@ -16,7 +16,7 @@ use Rattle.cl_model.specs.Numbers.{and_then}
 use Rattle.cl_sig.specs.declared.signature.Mark.{Mark}
 use Rattle.cl_sig.specs.declared.signature.Mark.TheVariants as marks
 use Rattle.cl_code.specs.Plain.{PlainFunction, PlainProgram}
-use Rattle.cl_code.specs.Sites.{Field, Holds, Asks, Calls, Place, as_value, as_values, field_of, fields_of, first_or_zero, parameters_at, parameters_or_none, parts_of, places, takes_for}
+use Rattle.cl_code.specs.Sites.{Field, Holds, Calls, Place, as_value, as_values, field_of, fields_of, first_or_zero, parameters_at, parameters_or_none, parts_of, places, takes_for}
 use Rattle.cl_code.proofs.Requests.{then_ok, same_Ok}
 use Rattle.cl_code.proofs.Tests.{left, right}
 use Rattle.cl_vm.specs.Asking.{CallFilled, Filled, IsCallOf, is_evaluated}

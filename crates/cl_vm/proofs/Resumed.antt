@@ -1,5 +1,5 @@
 -- A machine that was told one reply more stands for its process.
-use Rattle.std.proofs.Common.{◌≡◌, ℕ, Bool, true, List, [], ◌∷◌, ◌++◌, Option, Some, None, refl, sym, ap, ◌∙◌, subst, append-nil, append_assoc}
+use Rattle.std.proofs.Common.{◌≡◌, ℕ, true, List, [], ◌∷◌, ◌++◌, Option, Some, None, refl, sym, ap, ◌∙◌, subst, append-nil, append_assoc}
 use Rattle.std.proofs.Math.Path.{fun_ext}
 use Rattle.cl_value.specs.Acts.{fits}
 use Rattle.cl_value.specs.Plain.{PlainAsk, PlainReply, PlainRequest, PlainStart, Main, Lives, Land}

@@ -12,7 +12,7 @@ use Rattle.cl_code.specs.Plain.{PlainFunction, PlainProgram}
 use Rattle.cl_value.specs.declared.value.FieldType.{FieldType}
 use Rattle.cl_code.specs.Reach.{takes_at, gives_or_none}
 use Rattle.cl_code.specs.Rules.{is_some_up_to, is_eval, may_receive, call_is_right, field_is_right, site_is_right}
-use Rattle.cl_code.specs.Sites.{Place, parameters_or_none, places, places_at, none_or, takes, gives}
+use Rattle.cl_code.specs.Sites.{Place, parameters_or_none, places, places_at, none_or, gives}
 use Rattle.cl_code.specs.Valid.{Valid, function_is_short, is_short, place_is_typed, site_is_typed}
 use Rattle.cl_code.specs.Laws.{HeightsAreMet, StacksAreLow, GoesByInstructions}
 use Rattle.cl_code.specs.declared.instr.Instr.TheVariants.{Perform}

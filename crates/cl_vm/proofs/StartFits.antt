@@ -1,13 +1,13 @@
 -- The calls of a live tuple that fits can be done.
-use Rattle.std.proofs.Common.{◌≡◌, ℕ, suc, ◌≤◌, true, List, [], ◌∷◌, length, Option, Some, None, refl, sym, ap, arith}
-use Rattle.std.specs.Prelude.{slice_get, ◌==◌, ◌&&◌, nat_le}
+use Rattle.std.proofs.Common.{◌≡◌, ℕ, suc, true, List, [], ◌∷◌, length, Option, Some, None, refl, ap, arith}
+use Rattle.std.specs.Prelude.{slice_get, ◌==◌}
 use Rattle.cl_sig.specs.Beside.{all_beside}
 use Rattle.cl_sig.specs.Instances.{is_live_of}
 use Rattle.cl_value.specs.Plain.{PlainPart, Ready, Call, Lives}
 use Rattle.cl_value.specs.declared.value.Value.{Value}
 use Rattle.cl_value.specs.declared.value.FieldType.{FieldType}
-use Rattle.cl_code.specs.Plain.{PlainFunction, PlainProgram}
-use Rattle.cl_code.specs.Rules.{has, is_eval}
+use Rattle.cl_code.specs.Plain.{PlainProgram}
+use Rattle.cl_code.specs.Rules.{is_eval}
 use Rattle.cl_code.specs.Sites.{Place, places_at}
 use Rattle.cl_code.specs.Starts.{calls_there, has_type, live_fits, part_fits, start_fits, takes_and_gives}
 use Rattle.cl_code.specs.Valid.{Valid}

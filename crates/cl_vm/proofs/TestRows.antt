@@ -1,6 +1,5 @@
 -- Programs of one function are valid where they keep the rules.
-use Rattle.std.proofs.Common.{◌≡◌, ℕ, true, List, [], refl, arith}
-use Rattle.cl_code.specs.Plain.{PlainProgram}
+use Rattle.std.proofs.Common.{◌≡◌, ℕ, true, List, refl, arith}
 use Rattle.cl_code.specs.Rules.{keeps_rules}
 use Rattle.cl_code.specs.Valid.{Valid, lists_are_short}
 use Rattle.cl_code.specs.declared.instr.Instr.{Instr}

@@ -1,7 +1,6 @@
 -- How the request of an operation is built from numbers. (This project.)
 use Rattle.std.specs.Prelude.{◌≡◌, ℕ, Bool, true, false, List, ◌++◌, Result, Ok, Err}
 use Rattle.cl_value.specs.Room.{Room, capacity_of}
-use Rattle.cl_value.specs.LiveViews.{plain_live}
 use Rattle.cl_value.specs.Views.{plain_ask}
 use Rattle.cl_value.specs.declared.live.LiveField.{LiveField}
 use Rattle.cl_value.specs.declared.live.LiveField.TheVariants as fields
@@ -9,7 +8,6 @@ use Rattle.cl_value.specs.declared.process.Trap.{Trap}
 use Rattle.cl_value.specs.declared.request.Ask.{Ask}
 use Rattle.cl_value.specs.declared.value.Value.{Value}
 use Rattle.cl_value.specs.declared.value.FieldType.{FieldType}
-use Rattle.cl_value.specs.Plain.{PlainPart}
 use Rattle.cl_model.specs.Doing.{Checked}
 use Rattle.cl_sig.specs.declared.signature.Kind.{Kind}
 use Rattle.cl_sig.specs.declared.signature.Mark.{Mark}

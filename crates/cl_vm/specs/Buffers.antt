@@ -1,5 +1,5 @@
 -- The request at which a process stands, and the lists into which the next one is filled. (This project.)
-use Rattle.std.specs.Prelude.{◌≡◌, ℕ, ◌+◌, ◌≤◌, Bool, true, false, List, [], length, Option, Some, None, Result, Ok, Err}
+use Rattle.std.specs.Prelude.{◌≡◌, ℕ, ◌+◌, ◌≤◌, true, false, List, [], length, Option, Some, None, Result, Ok, Err}
 use Rattle.cl_value.specs.Room.{Room, capacity_of, HasRoom}
 use Rattle.cl_value.specs.LiveViews.{plain_live}
 use Rattle.cl_value.specs.Views.{plain_ask, plain_request}

@@ -1,10 +1,10 @@
 -- Functions that nothing waits for: the main function, and those of the calls in a live tuple. (Live tuples: Gelernter 1985.)
-use Rattle.std.specs.Prelude.{◌≡◌, ℕ, ◌+◌, ◌-◌, ◌*◌, ◌<◌, ◌≤◌, List, [], ◌∷◌, ◌++◌, length, replicate, slice_get, vec_capacity, Option, Some, None, ℤ, pos, Ok, Err}
+use Rattle.std.specs.Prelude.{◌≡◌, ℕ, ◌+◌, ◌-◌, ◌*◌, ◌<◌, ◌≤◌, List, [], ◌∷◌, ◌++◌, length, replicate, slice_get, vec_capacity, Option, Some, None, ℤ, pos}
 use Rattle.cl_value.specs.Plain.{PlainPart, PlainReply}
 use Rattle.cl_value.specs.declared.process.Trap.TheVariants.{CellLimit}
 use Rattle.cl_value.specs.declared.value.Value.{Value}
 use Rattle.cl_value.specs.declared.value.FieldType.{FieldType}
-use Rattle.cl_model.specs.Doing.{Checked, Stops, then_do, ◌>>=◌, ◌>>◌, pure, release, checked}
+use Rattle.cl_model.specs.Doing.{Stops, then_do, ◌>>=◌, ◌>>◌, pure, release, checked}
 use Rattle.cl_code.specs.Plain.{PlainFunction, PlainProgram}
 use Rattle.cl_code.specs.Process.{CodeDemand, Wrong, code_demand_of, ending_as, function_does, parts_do}
 use Rattle.cl_code.specs.Rules.{frame_size}

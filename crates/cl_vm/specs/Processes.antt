@@ -1,5 +1,5 @@
 -- How a machine stands for a process: what it is told, and what it comes to. (This project.)
-use Rattle.std.specs.Prelude.{◌≡◌, ℕ, zero, suc, ◌+◌, ◌-◌, ◌<◌, ◌≤◌, List, [], ◌∷◌, ◌++◌, length, drop, map, slice_get, Option, Some, None, Ok, IsTrue}
+use Rattle.std.specs.Prelude.{◌≡◌, ℕ, ◌+◌, ◌-◌, ◌<◌, ◌≤◌, List, [], ◌∷◌, ◌++◌, length, drop, map, slice_get, Option, Some, None, IsTrue}
 use Rattle.cl_value.specs.Acts.{fits}
 use Rattle.cl_value.specs.LiveViews.{plain_part}
 use Rattle.cl_value.specs.Plain.{PlainPart, Ready, Call, PlainReply, PlainRequest, PlainStart, Main, Lives, Land}
@@ -25,7 +25,6 @@ use Rattle.cl_vm.specs.Engine.{Behind, onward}
 use Rattle.cl_vm.specs.Hears.{plain_reply}
 use Rattle.cl_vm.specs.Outermost.{ArgumentsFit, IsFine, IsIdle, IsSound, between, came, entering}
 use Rattle.cl_vm.specs.Parts.{widest_of}
-use Rattle.cl_vm.specs.declared.engine.Engine.{Engine}
 use Rattle.cl_vm.specs.declared.starting.Progress.{Progress}
 use Rattle.cl_vm.specs.declared.starting.Progress.TheVariants as reached
 use Rattle.cl_vm.specs.declared.vm.Demand.{Demand}

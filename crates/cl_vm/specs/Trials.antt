@@ -1,8 +1,8 @@
 -- What tests know of a machine. (This project.)
-use Rattle.std.specs.Prelude.{◌≡◌, ℕ, List, Option, Some, None}
+use Rattle.std.specs.Prelude.{ℕ, List, Some, None}
 use Rattle.cl_value.specs.Plain.{PlainReply, PlainStart}
 use Rattle.cl_code.specs.Plain.{PlainProgram}
-use Rattle.cl_vm.specs.Processes.{Answers, Past, StandsFor, demand_now}
+use Rattle.cl_vm.specs.Processes.{Answers, StandsFor, demand_now}
 use Rattle.cl_vm.specs.declared.vm.Demand.{Demand}
 use Rattle.cl_vm.specs.declared.vm.Vm.{Vm}
 

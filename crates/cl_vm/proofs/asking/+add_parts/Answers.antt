@@ -1,5 +1,5 @@
-use Rattle.std.proofs.Common.{◌≡◌, ◌∙◌, List, [], ◌∷◌, ◌++◌, Some, None, ap, sym, refl, length, drop, subst, w64, rules, append-nil}
-use Rattle.std.specs.Prelude.{ℕ, ℤ, Ok, map, slice_get}
+use Rattle.std.proofs.Common.{◌≡◌, ◌∙◌, List, [], ◌∷◌, Some, None, ap, sym, refl, length, drop, w64, rules, append-nil}
+use Rattle.std.specs.Prelude.{ℤ, Ok, map, slice_get}
 use Rattle.std.proofs.lemmas.Int.{to_z-of_z}
 use Rattle.cl_value.specs.LiveViews.{plain_part}
 use Rattle.cl_value.specs.declared.live.LiveField.TheVariants as live
@@ -9,7 +9,6 @@ use Rattle.cl_model.specs.Numbers.{and_then}
 use Rattle.cl_code.specs.Plain.{PlainFunction, plain_function}
 use Rattle.cl_code.specs.Sites.{Holds, Asks, Calls, as_value, as_values, parameters_or_none, parameters_at}
 use Rattle.cl_sig.specs.declared.signature.Mark.TheVariants as marks
-use Rattle.cl_vm.specs.Parts.{widest_of}
 use Rattle.cl_vm.proofs.Filling.{whole}
 use Rattle.cl_vm.proofs.PartFilling.{ok_then, part_filled, pushed_part, called_part, called_list, call_read, keeps_then, keeps_ready, keeps_call, list_wide}
 use Rattle.cl_vm.proofs.asking.+add_parts.Goals as goal

@@ -2,7 +2,7 @@ use Rattle.std.proofs.Common.{◌∙◌, ap, sym, arith, length}
 use Rattle.std.specs.Prelude.{slice_get, map, option_map}
 use Rattle.std.proofs.lemmas.Option.{slice_get-map}
 use Rattle.std.proofs.lemmas.List.{length-map}
-use Rattle.cl_code.specs.Plain.{plain_program, plain_function}
+use Rattle.cl_code.specs.Plain.{plain_function}
 use Rattle.cl_code.specs.declared.parts.ProgramParts.{ProgramParts}
 use Rattle.cl_vm.proofs.outermost.function_of.Goals as goal
 

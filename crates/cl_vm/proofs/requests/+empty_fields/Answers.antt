@@ -1,5 +1,4 @@
 use Rattle.cl_vm.proofs.PartFilling.{keeps_then, drained_ready, drained_call}
-use Rattle.cl_vm.specs.Parts.{KeepsLists}
 use Rattle.cl_vm.proofs.requests.+empty_fields.Goals as goal
 
 pub returns-in-Ready-clause-kept : goal.returns-in-Ready-clause-kept

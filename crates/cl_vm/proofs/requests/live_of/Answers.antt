@@ -1,4 +1,4 @@
-use Rattle.std.proofs.Common.{◌∙◌, ap, arith, length, map, refl}
+use Rattle.std.proofs.Common.{ap, arith, length, map, refl}
 use Rattle.cl_value.specs.Room.{Room}
 use Rattle.cl_value.specs.declared.live.LiveField.{LiveField}
 use Rattle.cl_code.specs.Plain.{plain_function}

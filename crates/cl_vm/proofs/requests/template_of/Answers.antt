@@ -1,4 +1,4 @@
-use Rattle.std.proofs.Common.{◌≡◌, ◌∙◌, ap, arith, length, true}
+use Rattle.std.proofs.Common.{◌∙◌, ap, arith, length}
 use Rattle.std.specs.List.{list_all}
 use Rattle.cl_value.specs.Matching.{may_stand}
 use Rattle.cl_value.specs.Room.{Room}

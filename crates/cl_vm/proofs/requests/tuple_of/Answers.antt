@@ -1,4 +1,4 @@
-use Rattle.std.proofs.Common.{◌∙◌, ap, arith, length}
+use Rattle.std.proofs.Common.{ap, arith, length}
 use Rattle.cl_value.specs.Room.{Room}
 use Rattle.cl_value.specs.declared.value.Value.{Value}
 use Rattle.cl_vm.proofs.Filling.{any, tuple_long}

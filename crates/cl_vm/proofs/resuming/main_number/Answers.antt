@@ -1,6 +1,6 @@
 use Rattle.std.proofs.Common.{◌≡◌, Some, subst}
 use Rattle.std.specs.Prelude.{slice_get}
-use Rattle.cl_code.specs.Plain.{PlainFunction, PlainProgram, plain_program}
+use Rattle.cl_code.specs.Plain.{plain_program}
 use Rattle.cl_code.specs.declared.parts.ProgramParts.{ProgramParts}
 use Rattle.cl_vm.proofs.Fresh.{main_there}
 use Rattle.cl_vm.proofs.resuming.main_number.Goals as goal

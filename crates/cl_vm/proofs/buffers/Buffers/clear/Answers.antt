@@ -1,6 +1,6 @@
-use Rattle.std.proofs.Common.{◌≡◌, ◌∙◌, Option, None, Some, ap, sym, subst, refl}
+use Rattle.std.proofs.Common.{◌≡◌, ◌∙◌, Option, None, Some, ap, sym, subst}
 use Rattle.cl_value.specs.declared.request.Request.{Request}
-use Rattle.cl_vm.specs.Buffers.{HasLists, IsCleared, IsReady, values_in, slots_in, fields_in, held_in}
+use Rattle.cl_vm.specs.Buffers.{HasLists, values_in, slots_in, fields_in, held_in}
 use Rattle.cl_vm.specs.declared.buffers.Buffers.{Buffers}
 use Rattle.cl_vm.proofs.PartFilling.{lists_cleared}
 use Rattle.cl_vm.proofs.buffers.Buffers.clear.Goals as goal

@@ -1,16 +1,15 @@
-use Rattle.std.proofs.Common.{◌≡◌, ◌≤◌, ◌∙◌, List, Option, length, ap, sym, subst, arith, refl}
+use Rattle.std.proofs.Common.{◌≡◌, ◌≤◌, ◌∙◌, List, Option, length, ap, sym, subst, arith}
 use Rattle.std.specs.Prelude.{ℤ, ℕ, map, reverse, take}
 use Rattle.std.specs.List.{list_all}
 use Rattle.cl_sig.specs.Views.{plain_signature}
 use Rattle.cl_sig.specs.declared.signature.Mark.{Mark}
-use Rattle.cl_code.specs.Plain.{PlainFunction, plain_function, plain_program}
+use Rattle.cl_code.specs.Plain.{plain_function, plain_program}
 use Rattle.cl_code.specs.Sites.{Field, Place, fields_of, places, places_at, takes}
 use Rattle.cl_code.specs.Valid.{function_is_short}
 use Rattle.cl_code.specs.declared.function.Function.{Function}
 use Rattle.cl_model.specs.Doing.{Checked}
 use Rattle.cl_vm.specs.Asks.{count_at, numbers_at}
-use Rattle.cl_vm.specs.Buffers.{IsReady, Stands}
-use Rattle.cl_vm.specs.Parts.{widest_of}
+use Rattle.cl_vm.specs.Buffers.{Stands}
 use Rattle.cl_vm.proofs.SiteNeeds.{enough_there, some_fields, few_fields, evaluated_there, receivable_there, plain_places, functions_short}
 use Rattle.cl_vm.proofs.Operations.{asks_for}
 use Rattle.cl_vm.proofs.engine.Engine.ask.Goals as goal

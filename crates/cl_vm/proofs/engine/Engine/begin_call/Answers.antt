@@ -1,4 +1,4 @@
-use Rattle.std.proofs.Common.{◌≡◌, ◌∷◌, ◌∙◌, List, Some, ap, sym, subst, arith}
+use Rattle.std.proofs.Common.{◌∙◌, List, Some, ap, sym, subst}
 use Rattle.std.specs.Prelude.{ℕ, map}
 use Rattle.cl_model.specs.Doing.{Stops}
 use Rattle.cl_model.specs.Numbers.{number}

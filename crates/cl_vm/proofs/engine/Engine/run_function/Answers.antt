@@ -1,4 +1,4 @@
-use Rattle.std.proofs.Common.{◌≡◌, ◌∙◌, ◌-◌, ℕ, ap, sym, subst, w64, rules, refl}
+use Rattle.std.proofs.Common.{◌≡◌, ◌∙◌, ℕ, ap, sym, subst, w64, rules, refl}
 use Rattle.std.specs.Prelude.{ℤ, Ok, Err}
 use Rattle.std.proofs.lemmas.Int.{to_z-of_z}
 use Rattle.cl_value.specs.declared.value.Value.{Value}
@@ -6,7 +6,6 @@ use Rattle.cl_model.specs.Doing.{Checked}
 use Rattle.cl_code.specs.Plain.{PlainProgram, plain_program}
 use Rattle.cl_code.specs.Process.{result_as}
 use Rattle.cl_vm.specs.Begins.{progress_of}
-use Rattle.cl_vm.specs.Engine.{onward}
 use Rattle.cl_vm.specs.Outermost.{IsIdle, IsSound, behind_call, came}
 use Rattle.cl_vm.specs.Runs.{Ran}
 use Rattle.cl_vm.specs.declared.engine.Engine.{Engine}

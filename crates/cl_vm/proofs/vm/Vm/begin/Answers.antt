@@ -1,4 +1,4 @@
-use Rattle.std.proofs.Common.{◌≡◌, ◌∙◌, List, ap, sym, subst}
+use Rattle.std.proofs.Common.{◌∙◌, List, ap, sym, subst}
 use Rattle.cl_value.specs.Plain.{PlainReply}
 use Rattle.cl_value.specs.declared.process.Trap.{Trap}
 use Rattle.cl_model.specs.Doing.{Stops}

@@ -1,15 +1,14 @@
-use Rattle.std.proofs.Common.{◌≡◌, ◌+◌, ◌∷◌, ◌∙◌, List, Some, ap, sym, subst, arith, drop}
+use Rattle.std.proofs.Common.{◌+◌, ◌∷◌, ◌∙◌, List, Some, ap, sym, subst, arith, drop}
 use Rattle.std.specs.Prelude.{ℕ, map}
 use Rattle.std.proofs.lemmas.Option.{slice_get_within}
 use Rattle.cl_value.specs.LiveViews.{plain_part}
-use Rattle.cl_value.specs.Plain.{PlainPart, Ready, Call}
+use Rattle.cl_value.specs.Plain.{PlainPart, Call}
 use Rattle.cl_value.specs.declared.live.LiveField.{LiveField}
 use Rattle.cl_value.specs.declared.value.Value.{Value}
-use Rattle.cl_code.specs.Plain.{plain_function, plain_program}
-use Rattle.cl_code.specs.Process.{CodeDemand}
+use Rattle.cl_code.specs.Plain.{plain_program}
 use Rattle.cl_vm.specs.Begins.{cells_or_none}
-use Rattle.cl_vm.specs.Outermost.{ArgumentsFit, between, came, claimed_at, IsSound}
-use Rattle.cl_vm.specs.Processes.{PartFits, before_field, rest_of}
+use Rattle.cl_vm.specs.Outermost.{ArgumentsFit, between, came, claimed_at}
+use Rattle.cl_vm.specs.Processes.{PartFits}
 use Rattle.cl_vm.proofs.Calling.{ready_between}
 use Rattle.cl_vm.proofs.LiveFields.{parts_from, field_fits, came_depth}
 use Rattle.cl_vm.proofs.vm.Vm.begin_field.Goals as goal

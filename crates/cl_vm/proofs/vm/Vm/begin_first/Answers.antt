@@ -1,4 +1,4 @@
-use Rattle.std.proofs.Common.{◌≡◌, ◌∙◌, List, Option, ap, sym, subst}
+use Rattle.std.proofs.Common.{◌∙◌, List, Option, ap, sym, subst}
 use Rattle.std.specs.Prelude.{ℕ}
 use Rattle.std.proofs.Math.Path.{fun_ext}
 use Rattle.cl_value.specs.Plain.{PlainReply}

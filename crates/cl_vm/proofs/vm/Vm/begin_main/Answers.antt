@@ -1,4 +1,4 @@
-use Rattle.std.proofs.Common.{◌≡◌, ◌∙◌, List, [], ap, sym, arith, length, drop}
+use Rattle.std.proofs.Common.{◌∙◌, List, [], ap, sym, arith, length, drop}
 use Rattle.std.specs.Prelude.{ℕ, slice_get, map, Option}
 use Rattle.cl_value.specs.LiveViews.{plain_part}
 use Rattle.cl_value.specs.Plain.{PlainPart}

@@ -1,9 +1,7 @@
-use Rattle.std.proofs.Common.{◌≡◌, ◌∙◌, ◌∷◌, List, [], Some, None, Option, ap, sym, refl}
+use Rattle.std.proofs.Common.{◌∙◌, List, Some, ap, sym}
 use Rattle.std.specs.Prelude.{ℕ}
 use Rattle.cl_value.specs.Plain.{PlainPart}
-use Rattle.cl_value.specs.Room.{Room}
 use Rattle.cl_value.specs.declared.request.Ask.TheVariants as asks
-use Rattle.cl_value.specs.declared.request.Request.{Request}
 use Rattle.cl_value.specs.declared.value.Value.{Value}
 use Rattle.cl_code.specs.Process.{end_after}
 use Rattle.cl_vm.specs.Outermost.{between}

@@ -1,11 +1,10 @@
-use Rattle.std.proofs.Common.{◌≡◌, ◌∙◌, List, [], ◌++◌, ap, sym, subst, refl}
+use Rattle.std.proofs.Common.{◌∙◌, List, [], ◌++◌, sym, subst, refl}
 use Rattle.cl_value.specs.Plain.{PlainReply}
 use Rattle.cl_code.specs.Plain.{plain_program}
 use Rattle.cl_code.specs.Process.{code_demand}
 use Rattle.cl_code.specs.Valid.{Valid}
 use Rattle.cl_code.specs.declared.parts.ProgramParts.{ProgramParts}
-use Rattle.cl_vm.specs.Hears.{plain_reply}
-use Rattle.cl_vm.specs.Processes.{Answers, HasHeard, replies_in, reply_list}
+use Rattle.cl_vm.specs.Processes.{Answers, HasHeard}
 use Rattle.cl_vm.proofs.Resumed.{answers_again, answers_now, begins_new, heard_again, was_told}
 use Rattle.cl_vm.proofs.vm.Vm.resume.Goals as goal
 

@@ -1,7 +1,7 @@
-use Rattle.std.proofs.Common.{◌≡◌, ◌∙◌, List, ap, sym, subst, true}
+use Rattle.std.proofs.Common.{◌≡◌, ◌∙◌, ap, sym, subst, true}
 use Rattle.std.specs.Prelude.{map}
 use Rattle.cl_value.specs.LiveViews.{plain_live, plain_part}
-use Rattle.cl_value.specs.Plain.{PlainPart, Lives}
+use Rattle.cl_value.specs.Plain.{Lives}
 use Rattle.cl_value.specs.Room.{Room}
 use Rattle.cl_value.specs.Views.{plain_start}
 use Rattle.cl_value.specs.declared.live.LiveField.{LiveField}
