@@ -13,7 +13,7 @@ use Rattle.clinda.specs.Making.{Program, IsProgram, Makes, HasProgram, IsRefused
 use Rattle.clinda.specs.Answering.{Outside, Says, SaysNothing, Read, Failed, Larger, NoRoom, All, Answered, NoCommand, Commanded}
 use Rattle.clinda.specs.Top.{WordsClause, ReadClause, TooLargeClause, JudgesSource, SourceClause, Writes, WrittenClause, IsSource, RunsProgram, RunClause, TellsStuck, StuckClause, StatusesClause, TellsHalted, Halts, HaltedClause, ReadFaultClause, LostClause, WriteFaultClause, IsText, OfWords, OfLarge, OfSource, OfProgram, WritesFront, MemoryClause, Reports, ReportClause}
 use Rattle.clinda.specs.declared.outcome.Saying.{Saying}
-use Rattle.clinda.proofs.Makes.{spells_once, if_none, no_report, two_listed, four_listed, five_listed, eight_listed, one_unlisted, IsOther, Source, Reading, Writing, makes_listed, makes_halted, makes_run, makes_none_of, makes_report, makes_no_report, makes_seven, makes_eight, makes_own, makes_good, makes_stuck, program_size}
+use Rattle.clinda.proofs.Makes.{spells_once, if_none, no_report, two_listed, four_listed, five_listed, eight_listed, one_unlisted, Source, Reading, Writing, makes_listed, makes_halted, makes_run, makes_none_of, makes_report, makes_no_report, makes_seven, makes_eight, makes_own, makes_good, makes_stuck, program_size}
 use Rattle.clinda.proofs.Sayings.{said_status, said_kept, said_rose, said_front, said_all, said_own, said_whole}
 
 -- ---- the ways of a command

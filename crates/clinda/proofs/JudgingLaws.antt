@@ -1,6 +1,6 @@
 -- A source that is read as a tree is taken by a run as that tree, or refused in one way.
-use Rattle.std.proofs.Common.{◌≡◌, ℕ, List, [], ◌∷◌, Option, Some, None, Result, Ok, Err, refl, sym, ap, subst, ◌∙◌}
-use Rattle.std.specs.Prelude.{option_map, IfErr, IsErrAnd}
+use Rattle.std.proofs.Common.{◌≡◌, ℕ, List, [], Option, Some, None, Result, Ok, Err, refl, sym, ap, subst}
+use Rattle.std.specs.Prelude.{IfErr, IsErrAnd}
 use Rattle.cl_ast.specs.declared.statement.Item.{Item}
 use Rattle.cl_types.specs.declared.fault.Fault.{Fault}
 use Rattle.cl_types.specs.declared.public.TypeEnd.{TypeEnd}
@@ -11,7 +11,7 @@ use Rattle.cl_types.specs.Unit.{faults}
 use Rattle.clinda.specs.Commands.{Options, Seq, Print}
 use Rattle.clinda.specs.Front.{IsReadAs}
 use Rattle.clinda.specs.FrontEnds.{EndsFront}
-use Rattle.clinda.specs.Judging.{IsFit, first_eval, not_built, refusal_of_fault, unfit_by, unfit, IsRunAs, RefusesRun, Unread, Unfit}
+use Rattle.clinda.specs.Judging.{IsFit, first_eval, refusal_of_fault, unfit_by, unfit, RefusesRun, Unread, Unfit}
 use Rattle.clinda.specs.JudgingEnds.{front_end, EndsAtEval, EndsJudging}
 use Rattle.clinda.specs.Making.{HasProgram, IsRefused}
 use Rattle.clinda.specs.declared.front.FrontEnd.{FrontEnd}
