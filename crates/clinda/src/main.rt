@@ -12,6 +12,7 @@
 
 mod front;
 mod judge;
+mod limits;
 mod outcome;
 mod print;
 mod program;
