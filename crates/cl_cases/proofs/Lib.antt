@@ -6,3 +6,4 @@ mod OutlineStatements
 mod OutlineSteps
 mod PlaceFacts
 mod PlaceLaws
+mod PlaceRows
