@@ -12,7 +12,7 @@ use Rattle.cl_types.specs.Declarations.{Declaration}
 use Rattle.cl_typing.specs.Standing.{Fits, first_in, innermost, standing}
 use Rattle.cl_typing.proofs.Found.{or_else, has_first, has_innermost, innermost_or}
 use Rattle.cl_cases.specs.Outlines.{Shape, shape, shapes, Outline, outline}
-use Rattle.cl_cases.specs.Places.{IsDeclared, IsThere, AreThere, ChangesAreFound, OutlinesTellPlaces}
+use Rattle.cl_cases.specs.Places.{IsDeclared, IsThere, AreThere, WhatIsThereIsMet, OutlinesTellPlaces}
 
 -- ---- outlines tell what is found
 
@@ -140,17 +140,44 @@ module _ (name : Name) (change : Variable → Variable) (keeps : (v : Variable) 
       by false is true here e = not_from all.locals (in_scope name (set_in name change all.globals) nowhere) is ∙ (set_found all.globals nowhere here ∙ ap change (sym (not_from all.locals outer is)))
       by false is false here e = absurd cc
 
+-- ---- what is found, whatever an unknown name stands for
+
+same_in : (name : Name) (scope : Scope) (o other : Variable) → has name scope ≡ true → in_scope name scope o ≡ in_scope name scope other
+same_in name [] o other h = absurd cc
+same_in name (v ∷ vs) o other h = by (is_named name v) h (λ e. same_in name vs o other e)
+  where
+    by : (b : Bool) → (b || has name vs) ≡ true → (has name vs ≡ true → in_scope name vs o ≡ in_scope name vs other) → (if b then v else in_scope name vs o) ≡ (if b then v else in_scope name vs other)
+    by true e more = refl
+    by false e more = more e
+
+same_from : (name : Name) (scopes : List Scope) (o other : Variable) → list_any (has name) scopes ≡ true → found_from name scopes o ≡ found_from name scopes other
+same_from name [] o other h = absurd cc
+same_from name (scope ∷ inner) o other h = by (has name scope) refl h (λ e. same_from name inner (in_scope name scope o) (in_scope name scope other) e)
+  where
+    by : (b : Bool) → has name scope ≡ b → (b || list_any (has name) inner) ≡ true → (list_any (has name) inner ≡ true → found_from name inner (in_scope name scope o) ≡ found_from name inner (in_scope name scope other)) →
+        found_from name inner (in_scope name scope o) ≡ found_from name inner (in_scope name scope other)
+    by true is e more = ap (found_from name inner) (same_in name scope o other is)
+    by false is e more = more e
+
 -- ---- what is stored is read
+
+same_element : (vs : List Value) (at : ℕ) (y z : Value) → at < length vs → unwrap_or (slice_get vs at) y ≡ unwrap_or (slice_get vs at) z
+same_element [] at y z h = absurd (omega (arith, h))
+same_element (w ∷ ws) zero y z h = refl
+same_element (w ∷ ws) (suc at) y z h = same_element ws at y z (omega (arith, h))
 
 stored : (vs : List Value) (at : ℕ) (v z : Value) → at < length vs → unwrap_or (slice_get (slice_set vs at v) at) z ≡ v
 stored [] at v z h = absurd (omega (arith, h))
 stored (w ∷ ws) zero v z h = refl
 stored (w ∷ ws) (suc at) v z h = stored ws at v z (omega (arith, h))
 
-pub changes_are_found : ChangesAreFound
-changes_are_found name all = (
-  λ h change keeps. changed_found name change keeps all h,
-  λ at v h. ap (element at) (changed_found name (with_element at v) (λ w. refl) all h.0) ∙ stored (found name all).values at v (zero_of (found name all).of) h.1,
+pub what_is_there_is_met : WhatIsThereIsMet
+what_is_there_is_met name all = (
+  λ h. (λ other. same_from name (all.globals ∷ all.locals) other nowhere h, λ change keeps. changed_found name change keeps all h),
+  λ at h. (
+    λ other. same_element (found name all).values at other (zero_of (found name all).of) h.1,
+    λ v. ap (element at) (changed_found name (with_element at v) (λ w. refl) all h.0) ∙ stored (found name all).values at v (zero_of (found name all).of) h.1,
+  ),
 )
 
 -- ---- what stands is in a scope

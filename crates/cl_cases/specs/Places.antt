@@ -1,6 +1,6 @@
 -- Where names and places of variables are met, in a place of a text in which no fault is noted, they are there. (ISO/IEC 9899:1999, 6.2.1 and
 -- 6.5.2.1.)
-use Rattle.std.specs.Prelude.{◌≡◌, ◌<◌, ℕ, true, List, [], ◌∷◌, ◌++◌, map, length, Some, pos}
+use Rattle.std.specs.Prelude.{◌≡◌, ◌<◌, ℕ, true, List, [], ◌∷◌, ◌++◌, map, length, Some, pos, slice_get, unwrap_or}
 use Rattle.std.specs.List.{list_any}
 use Rattle.cl_value.specs.declared.value.Value.{Value}
 use Rattle.cl_value.specs.declared.value.Value.TheVariants.{Int}
@@ -15,7 +15,7 @@ use Rattle.cl_ast.specs.declared.statement.Change.TheVariants as changes
 use Rattle.cl_ast.specs.declared.statement.Item.{Item}
 use Rattle.cl_listing.specs.Names.{Name}
 use Rattle.cl_model.specs.Doing.{◌>>=◌, pure, each}
-use Rattle.cl_meaning.specs.Variables.{Variable, Variables, has, found, element, with_element, changed}
+use Rattle.cl_meaning.specs.Variables.{Variable, Variables, has, in_scope, found_from, found, element, with_element, changed}
 use Rattle.cl_meaning.specs.Operations.{Does, value_at, store, Aim, Holds, Fills}
 use Rattle.cl_meaning.specs.Expressions.{Surroundings, value, place_meant}
 use Rattle.cl_meaning.specs.Statements.{change_does, does}
@@ -48,13 +48,16 @@ AreThere (Fills of name at ∷ more) all = IsThere name at all × AreThere more 
 
 -- ---- laws of variables
 
--- A name that is in a scope isn't met as an unknown one: what it stands for is the same whatever an unknown name stands for, and a change by the name is a
--- change of it. What is stored at a place that is there is what is read there then.
-abbrev pub ChangesAreFound : Type 0
-ChangesAreFound =
+-- What a name that is in a scope stands for is the same whatever an unknown name stands for, and a change by the name is a change of it. What is read at a
+-- place that is there is the same whatever is read beyond the values, and what is stored there is what is read there then.
+abbrev pub WhatIsThereIsMet : Type 0
+WhatIsThereIsMet =
     (name : Name) (all : Variables) →
-    (IsDeclared name all → (change : Variable → Variable) → ((v : Variable) → (change v).name ≡ v.name) → found name (changed name change all) ≡ change (found name all))
-    × ((at : ℕ) (v : Value) → IsThere name at all → element at (found name (changed name (with_element at v) all)) ≡ v)
+    (IsDeclared name all →
+    ((other : Variable) → found_from name all.locals (in_scope name all.globals other) ≡ found name all)
+    × ((change : Variable → Variable) → ((v : Variable) → (change v).name ≡ v.name) → found name (changed name change all) ≡ change (found name all)))
+    × ((at : ℕ) → IsThere name at all →
+    ((other : Value) → unwrap_or (slice_get (found name all).values at) other ≡ element at (found name all)) × ((v : Value) → element at (found name (changed name (with_element at v) all)) ≡ v))
 
 -- What is declared, and what is there, is so wherever the outline is the same.
 abbrev pub OutlinesTellPlaces : Type 0

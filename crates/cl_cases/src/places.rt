@@ -1,5 +1,5 @@
 ghost use Rattle.cl_cases.specs.Outlines.{StoresLeaveOutlines, ExpressionsLeaveOutlines, CallsLeaveOutlines, StatementsAddInside, StatementsLeaveOutlines, InnermostStands, ClaimedCellsAreInUse};
-ghost use Rattle.cl_cases.specs.Places.{ChangesAreFound, OutlinesTellPlaces, PlacesAreThere, ReadsAreThere, AssignmentsAreThere, FormalsAreThere};
+ghost use Rattle.cl_cases.specs.Places.{WhatIsThereIsMet, OutlinesTellPlaces, PlacesAreThere, ReadsAreThere, AssignmentsAreThere, FormalsAreThere};
 
 /// Laws of each text, with faults or without, and of whatever its processes are told. No variable that stands
 /// gets another name, another type or another number of values: not where a value is stored or formals are
@@ -17,13 +17,14 @@ pub fn nothing_changes_an_outline()
     ensures cells { ClaimedCellsAreInUse }
 {}
 
-/// Laws of the places of variables. A change by a name that is in a scope is a change of the variable that it
-/// stands for, and what is stored at a place that is there is read there; outlines tell what is there. Where
+/// Laws of the places of variables. A name that is in a scope is met as no unknown one, and a change by it is a
+/// change of the variable that it stands for; what is stored at a place that is there is read there. Outlines
+/// tell what is there. Where
 /// no fault is noted in a place of a text, its name is in a scope, and when the place is found it is there: so
 /// where a value is read, where an assignment reads and stores, behind its right side too, and where the
 /// formals of an operation get their values, one after another. It does nothing.
 pub fn each_place_is_there()
-    ensures changes { ChangesAreFound }
+    ensures met { WhatIsThereIsMet }
     ensures outlines { OutlinesTellPlaces }
     ensures places { PlacesAreThere }
     ensures reads { ReadsAreThere }

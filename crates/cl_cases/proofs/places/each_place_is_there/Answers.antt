@@ -1,9 +1,9 @@
-use Rattle.cl_cases.proofs.PlaceFacts.{changes_are_found, outlines_tell_places}
+use Rattle.cl_cases.proofs.PlaceFacts.{what_is_there_is_met, outlines_tell_places}
 use Rattle.cl_cases.proofs.PlaceLaws.{places_are_there, reads_are_there, assignments_are_there, formals_are_there}
 use Rattle.cl_cases.proofs.places.each_place_is_there.Goals as goal
 
-pub returns-clause-changes : goal.returns-clause-changes
-returns-clause-changes c = changes_are_found
+pub returns-clause-met : goal.returns-clause-met
+returns-clause-met c = what_is_there_is_met
 
 pub returns-clause-outlines : goal.returns-clause-outlines
 returns-clause-outlines c = outlines_tell_places
