@@ -10,7 +10,7 @@ use Rattle.cl_meaning.specs.Outer.{outer, size_in, frame_cells}
 use Rattle.cl_meaning.specs.Calls.{run, calls}
 use Rattle.cl_meaning.specs.Process.{fixed}
 use Rattle.cl_typing.specs.Laws.{around}
-use Rattle.cl_cases.specs.Outlines.{Ends, outline, Adds, LeavesOutline, AddsInside, HasInnermost, StoresLeaveOutlines, ExpressionsLeaveOutlines, CallsLeaveOutlines, StatementsAddInside, StatementsLeaveOutlines, InnermostStands, ClaimedCellsAreInUse}
+use Rattle.cl_cases.specs.Outlines.{Ends, outline, Adds, LeavesOutline, AddsInside, HasInnermost, StoresLeaveOutlines, ExpressionsLeaveOutlines, CallsLeaveOutlines, StatementsAddInside, StatementsLeaveOutlines, InnermostIsEntered, InnermostStays, ClaimedCellsAreInUse}
 use Rattle.cl_cases.proofs.OutlineSteps.{Same, Grown, Returned, Within, ends_more}
 use Rattle.cl_cases.proofs.OutlineShapes.{same_grown, innermost_kept, fits_innermost}
 use Rattle.cl_cases.proofs.OutlineExpressions.{CallsStay, same_store, same_fill, value_stays, place_stays, field_stays, called_stays, operation_stays}
@@ -69,21 +69,19 @@ statements_leave_outlines xs depth more =
 grown : {A : Type 0} (d : Does A) → Within Same d → Within Grown d
 grown d h s = ends_more (λ a t. Same s t) (λ a t. Grown s t) (d s) (h s) (λ a t p. same_grown s t p)
 
-pub innermost_stands : InnermostStands
-innermost_stands = (
-  λ given all. ([], given, refl),
-  λ all. (all.locals, [], refl),
-  fits_innermost,
-  λ xs depth more.
-      let s = stay xs depth more in
-      let a = around xs depth more in
-      let n = size_in (outer xs) in (
-        λ x. keeps_innermost (value a x) (grown (value a x) (value_stays a s x)),
-        λ of d. keeps_innermost (declarator_does a n of d) (declarator_grown a s n of d),
-        λ x. keeps_innermost (does a n x) (every_stmt a s n x).0,
-        λ b. keeps_innermost (body_does a n b) (every_block a s n b),
-      ),
-)
+pub innermost_is_entered : InnermostIsEntered
+innermost_is_entered = (λ given all. ([], given, refl), λ all. (all.locals, [], refl), fits_innermost)
+
+pub innermost_stays : InnermostStays
+innermost_stays xs depth more =
+    let s = stay xs depth more in
+    let a = around xs depth more in
+    let n = size_in (outer xs) in (
+      λ x. keeps_innermost (value a x) (grown (value a x) (value_stays a s x)),
+      λ of d. keeps_innermost (declarator_does a n of d) (declarator_grown a s n of d),
+      λ x. keeps_innermost (does a n x) (every_stmt a s n x).0,
+      λ b. keeps_innermost (body_does a n b) (every_block a s n b),
+    )
 
 pub claimed_cells_are_in_use : ClaimedCellsAreInUse
 claimed_cells_are_in_use xs depth more f given =

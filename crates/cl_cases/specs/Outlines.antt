@@ -120,17 +120,20 @@ StatementsLeaveOutlines =
 abbrev pub HasInnermost : Variables → Type 0
 HasInnermost all = (front : List Scope) × (inner : Scope) × (all.locals ≡ front ++ inner ∷ [])
 
--- A function begins in a scope, a block enters one, and one stands wherever variables are those of a place of the text. Whatever an expression, a
--- declarator or a statement does, one stands behind it.
-abbrev pub InnermostStands : Type 0
-InnermostStands =
+-- A function begins in a scope, a block enters one, and one stands wherever variables fit a place of a text.
+abbrev pub InnermostIsEntered : Type 0
+InnermostIsEntered =
     ((given : Scope) (all : Variables) → HasInnermost (called_with given all)) × ((all : Variables) → HasInnermost (entered all))
     × ((globals : List Declaration) (outside : List (List Declaration)) (inner : List Declaration) (all : Variables) → Fits globals (outside ++ inner ∷ []) all → HasInnermost all)
-    × ((xs : List Item) (depth more : ℕ) →
+
+-- Where one stands, one stands behind whatever an expression, a declarator, a statement or the statements of a block do.
+abbrev pub InnermostStays : Type 0
+InnermostStays =
+    (xs : List Item) (depth more : ℕ) →
     ((x : Expr) → Ends HasInnermost (λ v all. HasInnermost all) (value (around xs depth more) x))
     × ((of : TypeName) (d : Declarator) → Ends HasInnermost (λ e all. HasInnermost all) (declarator_does (around xs depth more) (size_in (outer xs)) of d))
     × ((x : Stmt) → Ends HasInnermost (λ e all. HasInnermost all) (does (around xs depth more) (size_in (outer xs)) x))
-    × ((b : Block) → Ends HasInnermost (λ e all. HasInnermost all) (body_does (around xs depth more) (size_in (outer xs)) b)))
+    × ((b : Block) → Ends HasInnermost (λ e all. HasInnermost all) (body_does (around xs depth more) (size_in (outer xs)) b))
 
 -- ---- cells
 

@@ -1,4 +1,4 @@
-ghost use Rattle.cl_cases.specs.Outlines.{StoresLeaveOutlines, ExpressionsLeaveOutlines, CallsLeaveOutlines, StatementsAddInside, StatementsLeaveOutlines, InnermostStands, ClaimedCellsAreInUse};
+ghost use Rattle.cl_cases.specs.Outlines.{StoresLeaveOutlines, ExpressionsLeaveOutlines, CallsLeaveOutlines, StatementsAddInside, StatementsLeaveOutlines, InnermostIsEntered, InnermostStays, ClaimedCellsAreInUse};
 ghost use Rattle.cl_cases.specs.Places.{WhatIsThereIsMet, OutlinesTellPlaces, PlacesAreThere, ReadsAreThere, AssignmentsAreThere, FormalsAreThere};
 
 /// Laws of each text, with faults or without, and of whatever its processes are told. No variable that stands
@@ -13,16 +13,16 @@ pub fn nothing_changes_an_outline()
     ensures calls { CallsLeaveOutlines }
     ensures statements { StatementsAddInside }
     ensures blocks { StatementsLeaveOutlines }
-    ensures innermost { InnermostStands }
+    ensures entered { InnermostIsEntered }
+    ensures innermost { InnermostStays }
     ensures cells { ClaimedCellsAreInUse }
 {}
 
 /// Laws of the places of variables. A name that is in a scope is met as no unknown one, and a change by it is a
 /// change of the variable that it stands for; what is stored at a place that is there is read there. Outlines
-/// tell what is there. Where
-/// no fault is noted in a place of a text, its name is in a scope, and when the place is found it is there: so
-/// where a value is read, where an assignment reads and stores, behind its right side too, and where the
-/// formals of an operation get their values, one after another. It does nothing.
+/// tell what is there. Where no fault is noted in a place of a text its name is in a scope, and when the place
+/// is found it is there: so where a value is read, where an assignment reads and stores, behind its right side
+/// too, and where the formals of an operation get their values, one after another. It does nothing.
 pub fn each_place_is_there()
     ensures met { WhatIsThereIsMet }
     ensures outlines { OutlinesTellPlaces }
