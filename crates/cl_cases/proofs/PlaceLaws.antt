@@ -1,11 +1,24 @@
 -- Where no fault is noted in a place, it is there when it is found, and still is behind whatever is evaluated then.
-use Rattle.std.proofs.Common.{◌≡◌, ◌∙◌, sym, subst, refl, ℕ, ◌<◌, Bool, true, false, List, [], ◌∷◌, ◌++◌, map, length, Option, Some, None, arith}
+use Rattle.std.proofs.Common.{◌≡◌, ◌∙◌, ap, sym, subst, refl, ℕ, ◌<◌, Bool, true, false, List, [], ◌∷◌, ◌++◌, map, length, Option, Some, None, arith}
 use Rattle.std.proofs.lemmas.Bool.{ltb-true}
 use Rattle.std.specs.Prelude.{option_map, nat_lt, if◌then◌else◌, Ok, Err, ℤ, pos, negsuc}
 use Rattle.cl_value.specs.declared.process.Trap.TheVariants.{IndexRange}
 use Rattle.cl_value.specs.declared.value.Value.{Value}
 use Rattle.cl_value.specs.declared.value.Value.TheVariants as values
+use Rattle.cl_value.specs.Plain.{PlainRequest}
+use Rattle.cl_ast.specs.declared.span.Span.{Span}
 use Rattle.cl_ast.specs.declared.tree.TypeName.{TypeName}
+use Rattle.cl_ast.specs.declared.statement.Size.{Size}
+use Rattle.cl_ast.specs.declared.statement.Stmt.TheVariants as stmts
+use Rattle.cl_ast.specs.declared.statement.Variables.{Variables as Declaring}
+use Rattle.cl_meaning.specs.Statements.{Exit, declarator_does, declaration_does, does}
+use Rattle.cl_meaning.specs.Statements as meaning
+use Rattle.cl_types.specs.declared.context.Context.{Context}
+use Rattle.cl_typing.specs.Bodies as bodies
+use Rattle.cl_typing.specs.Bodies.{stands, are_settled}
+use Rattle.cl_typing.specs.Steps.{Right}
+use Rattle.cl_typing.proofs.Settled as settled_forms
+use Rattle.cl_typing.proofs.Process.{statements_lead}
 use Rattle.cl_ast.specs.declared.tree.Verb.{Verb}
 use Rattle.cl_ast.specs.declared.tree.Expr.{Expr}
 use Rattle.cl_ast.specs.declared.tree.Expr.TheViews.{out-Field, roll-Field, roll-out-Field}
@@ -51,7 +64,7 @@ use Rattle.cl_typing.specs.Laws.{around}
 use Rattle.cl_typing.proofs.Found.{found_fits}
 use Rattle.cl_typing.proofs.Places.{Accesses, may_access}
 use Rattle.cl_cases.specs.Outlines.{AtEnd, outline}
-use Rattle.cl_cases.specs.Places.{IsDeclared, IsThere, AreThere, SceneOf, IsOutlined, PlacesAreThere, ReadsAreThere, right_side, AssignmentsAreThere, FormalsAreThere}
+use Rattle.cl_cases.specs.Places.{IsDeclared, IsThere, AreThere, SceneOf, IsOutlined, DeclaratorsLead, PlacesAreThere, ReadsAreThere, right_side, AssignmentsAreThere, FormalsAreThere}
 use Rattle.cl_cases.proofs.OutlineSteps.{Same, Within, then_ends, ends_more}
 use Rattle.cl_cases.proofs.OutlineExpressions.{CallsStay, same_pure, same_store, value_stays, place_stays}
 use Rattle.cl_cases.proofs.OutlineLaws.{stay}
@@ -254,3 +267,29 @@ formals_are_there = (
   λ xs depth more c o clean s so. operation_there (around xs depth more) (stay xs depth more) (functions_of xs) (outside xs) c so.0 so.1 o clean s so.2,
   λ name at v more s h. ends_more (λ u t. Same s t) (λ u t. AreThere more t.variables) (store name at v s) (same_store name at v s) (λ u t p. all_there more s.variables t.variables p.0 h),
 )
+
+-- ---- scenes behind declarators
+
+nowhere_in_text : Span
+nowhere_in_text = record { start = 0; end = 0 }
+
+-- what a declaration does, declarator by declarator
+declaration_is : (around : Surroundings) (length_of : Size → ℕ) (x : Declaring) → does around length_of (stmts.Variables x) ≡ meaning.in_order (map (declarator_does around length_of x.type_name) x.declarators)
+unfolding declaration_does
+declaration_is around length_of x = meant.of_variables around length_of x
+
+-- behind a declaration of these alone
+pub declarators_lead : DeclaratorsLead
+declarators_lead xs none settled depth more c t first fresh clean =
+    let x : Declaring = record { type_name = t; declarators = first; span = nowhere_in_text } in
+    let context : Context = record { result = None; is_in_loop = false } in
+    let walk = sentences.of_variables x context c.known in
+    let stood : (stands (stmts.Variables x)).is_settled ≡ true = ap (λ (s : bodies.Standing). s.is_settled) (settled_forms.of_variables x) in
+    let lead = statements_lead xs none settled depth more c context (stmts.Variables x) stood fresh (subst (λ (w : Walked). Clean w.notes) (sym walk) clean) in
+    let d = lead.0 in (
+      d,
+      lead.1,
+      lead.2 ∙ ap (λ (w : Walked). w.known) walk,
+      lead.3,
+      subst (λ (e : Does Exit). Right (λ (q : PlainRequest). Unit {0}) (Fits (outside xs) (c.outer ++ c.inner ∷ [])) (λ e all. Fits (outside xs) (d.outer ++ d.inner ∷ []) all) e) (declaration_is (around xs depth more) (size_in (outer xs)) x) lead.4,
+    )

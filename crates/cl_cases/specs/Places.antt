@@ -4,6 +4,9 @@ use Rattle.std.specs.Prelude.{◌≡◌, ◌<◌, ℕ, true, List, [], ◌∷◌
 use Rattle.std.specs.List.{list_any}
 use Rattle.cl_value.specs.declared.value.Value.{Value}
 use Rattle.cl_value.specs.declared.value.Value.TheVariants.{Int}
+use Rattle.cl_value.specs.Plain.{PlainRequest}
+use Rattle.cl_ast.specs.declared.tree.TypeName.{TypeName}
+use Rattle.cl_ast.specs.declared.statement.Declarator.{Declarator}
 use Rattle.cl_ast.specs.declared.tree.Expr.{Expr}
 use Rattle.cl_ast.specs.declared.tree.Expr.TheVariants as exprs
 use Rattle.cl_ast.specs.declared.tree.Place.{Place, out-Place}
@@ -18,14 +21,19 @@ use Rattle.cl_model.specs.Doing.{◌>>=◌, pure, each}
 use Rattle.cl_meaning.specs.Variables.{Variable, Variables, has, in_scope, found_from, found, element, with_element, changed}
 use Rattle.cl_meaning.specs.Operations.{Does, value_at, store, Aim, Holds, Fills}
 use Rattle.cl_meaning.specs.Expressions.{Surroundings, value, place_meant}
-use Rattle.cl_meaning.specs.Statements.{change_does, does}
+use Rattle.cl_meaning.specs.Statements.{change_does, declarator_does, does}
+use Rattle.cl_meaning.specs.Statements as meaning
 use Rattle.cl_meaning.specs.Outer.{outer, size_in, functions_of}
 use Rattle.cl_meaning.specs.Parts.{field_aim}
 use Rattle.cl_types.specs.declared.context.Access.{Access}
 use Rattle.cl_types.specs.declared.context.Context.{Context}
 use Rattle.cl_types.specs.Expressions.{judged, judged_place, operation_notes}
-use Rattle.cl_types.specs.Statements.{walked}
-use Rattle.cl_typing.specs.Standing.{Fits, Scene}
+use Rattle.cl_types.specs.declared.context.Reach.TheVariants as reaches
+use Rattle.cl_types.specs.Statements.{in_order, declarator_walked, walked}
+use Rattle.cl_types.specs.Unit.{faults}
+use Rattle.cl_typing.specs.Bodies.{are_settled}
+use Rattle.cl_typing.specs.Steps.{Right}
+use Rattle.cl_typing.specs.Standing.{Fits, Fresh, Scene}
 use Rattle.cl_typing.specs.Texts.{outside}
 use Rattle.cl_typing.specs.Laws.{NoFault, around}
 use Rattle.cl_cases.specs.Outlines.{Ends, outline}
@@ -73,6 +81,14 @@ SceneOf xs = Scene (functions_of xs) (outside xs)
 
 abbrev pub IsOutlined : (xs : List Item) → SceneOf xs → Variables → Type 0
 IsOutlined xs c all = (fitting : Variables) × Fits (outside xs) (c.outer ++ c.inner ∷ []) fitting × (outline all ≡ outline fitting)
+
+-- Behind the first declarators of a declaration there is a scene of what is known there, as behind a statement.
+abbrev pub DeclaratorsLead : Type 0
+DeclaratorsLead =
+    (xs : List Item) → faults xs ≡ [] → are_settled xs ≡ true → (depth more : ℕ) (c : SceneOf xs) (t : TypeName) (first : List Declarator) → Fresh c.inner c.known →
+    NoFault (in_order (map (declarator_walked reaches.Local t) first) c.known).notes →
+    (d : SceneOf xs) × (d.outer ≡ c.outer) × (d.known ≡ (in_order (map (declarator_walked reaches.Local t) first) c.known).known) × Fresh d.inner d.known
+    × Right (λ (q : PlainRequest). Unit {0}) (Fits (outside xs) (c.outer ++ c.inner ∷ [])) (λ e all. Fits (outside xs) (d.outer ++ d.inner ∷ []) all) (meaning.in_order (map (declarator_does (around xs depth more) (size_in (outer xs)) t) first))
 
 -- Where no fault is noted in a place its variable is in a scope, before its index is evaluated and behind it; and where the place is found it is there.
 abbrev pub PlacesAreThere : Type 0

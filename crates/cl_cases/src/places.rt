@@ -1,5 +1,5 @@
 ghost use Rattle.cl_cases.specs.Outlines.{StoresLeaveOutlines, ExpressionsLeaveOutlines, CallsLeaveOutlines, StatementsAddInside, StatementsLeaveOutlines, InnermostIsEntered, InnermostStays, ClaimedCellsAreInUse};
-ghost use Rattle.cl_cases.specs.Places.{WhatIsThereIsMet, OutlinesTellPlaces, PlacesAreThere, ReadsAreThere, AssignmentsAreThere, FormalsAreThere};
+ghost use Rattle.cl_cases.specs.Places.{WhatIsThereIsMet, OutlinesTellPlaces, DeclaratorsLead, PlacesAreThere, ReadsAreThere, AssignmentsAreThere, FormalsAreThere};
 
 /// Laws of each text, with faults or without, and of whatever its processes are told. No variable that stands
 /// gets another name, another type or another number of values: not where a value is stored or formals are
@@ -20,12 +20,14 @@ pub fn nothing_changes_an_outline()
 
 /// Laws of the places of variables. A name that is in a scope is met as no unknown one, and a change by it is a
 /// change of the variable that it stands for; what is stored at a place that is there is read there. Outlines
-/// tell what is there. Where no fault is noted in a place of a text its name is in a scope, and when the place
-/// is found it is there: so where a value is read, where an assignment reads and stores, behind its right side
-/// too, and where the formals of an operation get their values, one after another. It does nothing.
+/// tell what is there. Behind the first declarators of a declaration what is known stands, as behind a
+/// statement. Where no fault is noted in a place of a text its name is in a scope, and when the place is found
+/// it is there: so where a value is read, where an assignment reads and stores, behind its right side too, and
+/// where the formals of an operation get their values, one after another. It does nothing.
 pub fn each_place_is_there()
     ensures met { WhatIsThereIsMet }
     ensures outlines { OutlinesTellPlaces }
+    ensures behind { DeclaratorsLead }
     ensures places { PlacesAreThere }
     ensures reads { ReadsAreThere }
     ensures assignments { AssignmentsAreThere }

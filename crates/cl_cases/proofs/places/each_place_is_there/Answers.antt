@@ -1,5 +1,5 @@
 use Rattle.cl_cases.proofs.PlaceFacts.{what_is_there_is_met, outlines_tell_places}
-use Rattle.cl_cases.proofs.PlaceLaws.{places_are_there, reads_are_there, assignments_are_there, formals_are_there}
+use Rattle.cl_cases.proofs.PlaceLaws.{declarators_lead, places_are_there, reads_are_there, assignments_are_there, formals_are_there}
 use Rattle.cl_cases.proofs.places.each_place_is_there.Goals as goal
 
 pub returns-clause-met : goal.returns-clause-met
@@ -7,6 +7,9 @@ returns-clause-met c = what_is_there_is_met
 
 pub returns-clause-outlines : goal.returns-clause-outlines
 returns-clause-outlines c = outlines_tell_places
+
+pub returns-clause-behind : goal.returns-clause-behind
+returns-clause-behind c = declarators_lead
 
 pub returns-clause-places : goal.returns-clause-places
 returns-clause-places c = places_are_there
