@@ -1,0 +1,9 @@
+pub mod Called
+pub mod Exits
+pub mod Fields
+pub mod Giving
+pub mod Initials
+pub mod Loops
+pub mod Operands
+pub mod Prints
+pub mod Replies

@@ -1,0 +1,9 @@
+//! Which cases of the meaning a text without faults meets. The meaning is a total function, and some of its cases stand there only to make it
+//! total: a text without faults whose declarations stand in blocks never meets them.
+//!
+//! The crate has definitions and laws alone. A law is a call that does nothing, whose clauses say what holds.
+#![tactic(auto)]
+
+mod calls;
+
+pub use calls::{each_case_is_meant, each_number_is_there, each_operation_is_meant};
