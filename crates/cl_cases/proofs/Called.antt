@@ -25,7 +25,7 @@ use Rattle.cl_types.proofs.Clean.{Clean, clean_split, none_found}
 use Rattle.cl_typing.specs.Standing.{function_in}
 use Rattle.cl_typing.specs.Requests.{AreArguments}
 use Rattle.cl_typing.specs.Texts.{outside, PartFits}
-use Rattle.cl_typing.proofs.Calling.{named_is, may_call}
+use Rattle.cl_typing.proofs.Calling.{named_is, number_gets, may_call}
 use Rattle.cl_typing.proofs.Process.{main_is}
 use Rattle.cl_cases.specs.Calls.{MeansFunction, GivesAsCalled, PartMeans, CallsMeanFunctions, PartsAreComplete, StartsMeanFunctions, MainIsThere}
 use Rattle.cl_cases.proofs.Giving.{each_gives}
@@ -36,6 +36,7 @@ means functions name given f is same = record {
   found = is;
   value = λ none go. named_is none functions name f go is;
   part = λ none go. named_is none functions name f go is;
+  number = number_gets functions name f is;
   count = same;
 }
 

@@ -3,7 +3,9 @@ pub mod Exits
 pub mod Fields
 pub mod Giving
 pub mod Initials
+pub mod Listed
 pub mod Loops
 pub mod Operands
 pub mod Prints
 pub mod Replies
+mod Rows

@@ -9,7 +9,7 @@ use Rattle.cl_ast.specs.declared.statement.Function.{Function}
 use Rattle.cl_ast.specs.declared.statement.Item.{Item}
 use Rattle.cl_listing.specs.Names.{Name}
 use Rattle.cl_meaning.specs.Operations.{Does, Aim}
-use Rattle.cl_meaning.specs.Outer.{functions_of}
+use Rattle.cl_meaning.specs.Outer.{functions_of, number_of}
 use Rattle.cl_meaning.specs.Calls.{function_named}
 use Rattle.cl_types.specs.declared.context.Purpose.{Purpose}
 use Rattle.cl_types.specs.declared.context.Purpose.TheVariants as purposes
@@ -22,12 +22,14 @@ use Rattle.cl_typing.specs.Texts.{outside, StartFits}
 use Rattle.cl_typing.specs.Laws.{NoFault}
 use Rattle.cl_cases.specs.Giving.{GiveOneEach}
 
--- A call of this name with so many values means a function of these, whatever would be given where there is none.
+-- A call of this name with so many values means a function of these, whatever would be given where there is none; its number tells it, and it
+-- has as many parameters.
 pub record MeansFunction (functions : List Function) (name : Name) (given : ℕ) : Type 0 where
   pub function : Function
   pub found : function_in functions name ≡ Some function
   pub value : (none : Value) (go : Function → Does Value) → function_named none functions name go ≡ go function
   pub part : (none : PlainPart) (go : Function → Does PlainPart) → function_named none functions name go ≡ go function
+  pub number : slice_get functions (number_of name functions) ≡ Some function
   pub count : length function.parameters ≡ given
 
 -- a function that is called for its value gives one

@@ -3,6 +3,7 @@ pub mod Exits
 pub mod Fields
 pub mod Giving
 pub mod Initials
+pub mod Listed
 pub mod Loops
 pub mod Operands
 pub mod Prints

@@ -1,15 +1,18 @@
 -- Formats that are filled in exactly. (ISO/IEC 9899:1999, 7.19.6.1; which directives there are: this project.)
-use Rattle.std.specs.Prelude.{◌≡◌, ℕ, ◌==◌, List, [], ◌∷◌, ◌++◌, length, Option, Some, None, if◌then◌else◌}
+use Rattle.std.specs.Prelude.{◌≡◌, ℕ, ◌==◌, List, [], ◌∷◌, ◌++◌, map, Option, Some, None, if◌then◌else◌}
 use Rattle.std.specs.Fmt.{signed_decimal}
 use Rattle.cl_value.specs.declared.value.Value.{Value}
 use Rattle.cl_ast.specs.declared.statement.Print.{Print}
+use Rattle.cl_model.specs.Doing.{each}
 use Rattle.cl_model.specs.Numbers.{number, byte_of}
+use Rattle.cl_meaning.specs.Expressions.{Surroundings, value}
 use Rattle.cl_meaning.specs.Printing.{filled}
 use Rattle.cl_types.specs.declared.format.Stage.{Stage}
 use Rattle.cl_types.specs.declared.format.Stage.TheVariants as stages
 use Rattle.cl_types.specs.Declarations.{Known}
 use Rattle.cl_types.specs.Statements.{print_notes}
 use Rattle.cl_typing.specs.Laws.{NoFault}
+use Rattle.cl_cases.specs.Giving.{AlwaysGives}
 
 abbrev pub behind : List ℕ → Option (List ℕ) → Option (List ℕ)
 behind front None = None
@@ -43,7 +46,8 @@ written (b ∷ bytes) stages.Long vs = if b == 100 then taken decimal vs (writte
 abbrev pub exactly_filled : List ℕ → List Value → Option (List ℕ)
 exactly_filled bytes vs = written bytes stages.Text vs
 
--- a `printf` in which no fault is noted is filled in exactly by the values of its arguments
+-- a `printf` in which no fault is noted is filled in exactly, whatever its arguments give
 abbrev pub PrintsAreExact : Type 0
 PrintsAreExact =
-    (x : Print) (known : Known) → NoFault (print_notes known x) → (vs : List Value) → length vs ≡ length x.arguments → exactly_filled x.format.bytes vs ≡ Some (filled x.format.bytes vs)
+    (around : Surroundings) (x : Print) (known : Known) → NoFault (print_notes known x) →
+    AlwaysGives (λ vs. exactly_filled x.format.bytes vs ≡ Some (filled x.format.bytes vs)) (each (map (λ y. value around y.expr) x.arguments))

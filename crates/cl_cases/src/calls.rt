@@ -2,6 +2,7 @@ ghost use Rattle.cl_cases.specs.Calls.{CallsMeanFunctions, PartsAreComplete, Sta
 ghost use Rattle.cl_cases.specs.Exits.{StatementsLeave, FunctionsReturn};
 ghost use Rattle.cl_cases.specs.Fields.{FormalsReceive, FieldsHold, OutsAreComplete, EvalsAreEvaluated};
 ghost use Rattle.cl_cases.specs.Initials.{SizesAreThere, FunctionsKnow, KnownEverywhere, GlobalsAreInitial};
+ghost use Rattle.cl_cases.specs.Listed.{EachIsListed};
 ghost use Rattle.cl_cases.specs.Loops.{EachLoopEnds};
 ghost use Rattle.cl_cases.specs.Operands.{ValuesAreNumeric, OperatorsGiveNumbers, WrittenWereNumeric, TuplesFill, StartsHaveNumbers};
 ghost use Rattle.cl_cases.specs.Prints.{PrintsAreExact};
@@ -27,7 +28,8 @@ pub fn each_case_is_meant()
 /// Laws of operations. No formal stands in an `out` or an `eval` in which no fault is noted, so an `out` asks
 /// with as many values as it has fields; an `eval` makes a process, and each other operation asks as its
 /// verb says. A reply that fits is one that the verb has, with as many values as there are fields; and each
-/// formal gets a number. It does nothing.
+/// formal gets a number. The number of each operation is below the count of a text's operations, and that of
+/// each string of its fields below the count of strings. It does nothing.
 pub fn each_operation_is_meant()
     ensures formals { FormalsReceive }
     ensures fields { FieldsHold }
@@ -35,6 +37,7 @@ pub fn each_operation_is_meant()
     ensures evals { EvalsAreEvaluated }
     ensures replies { RepliesMayBeTold }
     ensures tuples { TuplesFill }
+    ensures listed { EachIsListed }
 {}
 
 /// Laws of numbers. An expression in which no fault is noted gives a number, and no text; so do operators,
