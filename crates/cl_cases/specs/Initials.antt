@@ -52,12 +52,12 @@ IsSize n = 1 ≤ n × n ≤ 65536
 abbrev pub SizesAreThere : Type 0
 SizesAreThere = (scope : Scope) (known : Known) (size : Size) → KnowsConstants scope known → NoFault (size_notes known size) → IsSize (size_in scope size)
 
--- What is known of constants stands outside of functions: where the statements of each function begin,
+-- The constants that are known where the statements of a function begin stand outside of functions.
 abbrev pub FunctionsKnow : Type 0
 FunctionsKnow =
     (xs : List Item) → faults xs ≡ [] → (before behind : List Item) (f : Function) → xs ≡ before ++ items.Function f ∷ behind → KnowsConstants (outer xs) (known_inside f (items_walked before (known_first xs)).known)
 
--- behind each statement and each declarator, and in each scope that is entered.
+-- So do those that are known behind each statement and each declarator, and in each scope that is entered.
 pub record StatementsKnow (scope : Scope) (known : Known) : Type 0 where
   pub behind : (x : Stmt) (context : Context) → KnowsConstants scope (walked x context known).known
   pub declared : (reach : Reach) (t : TypeName) (d : Declarator) → KnowsConstants scope (declarator_walked reach t d known).known

@@ -2,6 +2,7 @@ pub mod Calls
 pub mod Exits
 pub mod Fields
 pub mod Giving
+pub mod Heads
 pub mod Initials
 pub mod Listed
 pub mod Loops

@@ -6,7 +6,7 @@ use Rattle.cl_ast.specs.declared.tree.Verb.{Verb}
 use Rattle.cl_ast.specs.declared.tree.Verb.TheVariants as verbs
 use Rattle.cl_meaning.specs.Operations.{Aim, asked}
 
--- what may be told of a request of this verb with these fields; an `eval` isn't among them
+-- what may be told of a request of this verb with these fields; an `eval` asks otherwise (`EvalsAreEvaluated`)
 abbrev pub MayBeTold : Verb → List Aim → PlainReply → Type 0
 MayBeTold verbs.Out fields Done = Unit {0}
 MayBeTold verbs.In fields (Got t) = length t ≡ length fields

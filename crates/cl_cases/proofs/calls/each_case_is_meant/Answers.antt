@@ -1,5 +1,6 @@
 use Rattle.cl_cases.proofs.Called.{calls_mean_functions, parts_are_complete, starts_mean_functions, main_is_there}
 use Rattle.cl_cases.proofs.Exits.{statements_leave_off, functions_return}
+use Rattle.cl_cases.proofs.Heads.{heads_go_on}
 use Rattle.cl_cases.proofs.Loops.{each_loop_ends}
 use Rattle.cl_cases.proofs.Prints.{prints_are_exact}
 use Rattle.cl_cases.proofs.calls.each_case_is_meant.Goals as goal
@@ -21,6 +22,9 @@ returns-clause-exits c = statements_leave_off
 
 pub returns-clause-returns : goal.returns-clause-returns
 returns-clause-returns c = functions_return
+
+pub returns-clause-heads : goal.returns-clause-heads
+returns-clause-heads c = heads_go_on
 
 pub returns-clause-loops : goal.returns-clause-loops
 returns-clause-loops c = each_loop_ends
