@@ -8,8 +8,9 @@ use Rattle.cl_ast.specs.declared.tree.Call.{out-Call}
 use Rattle.cl_ast.specs.declared.statement.Function.{Function}
 use Rattle.cl_ast.specs.declared.statement.Parameter.{Parameter}
 use Rattle.cl_listing.specs.Names.{Name}
-use Rattle.cl_meaning.specs.Operations.{Aim}
 use Rattle.cl_meaning.specs.Outer.{functions_of}
+use Rattle.cl_meaning.specs.Expressions.{value}
+use Rattle.cl_meaning.specs.Parts.{field_aim, field_part}
 use Rattle.cl_types.specs.declared.context.Purpose.{Purpose}
 use Rattle.cl_types.specs.declared.context.Purpose.TheVariants as purposes
 use Rattle.cl_types.specs.declared.declared.Declared.{Declared}
@@ -28,7 +29,7 @@ use Rattle.cl_typing.specs.Texts.{outside, PartFits}
 use Rattle.cl_typing.proofs.Calling.{named_is, number_gets, may_call}
 use Rattle.cl_typing.proofs.Process.{main_is}
 use Rattle.cl_cases.specs.Calls.{MeansFunction, GivesAsCalled, PartMeans, CallsMeanFunctions, PartsAreComplete, StartsMeanFunctions, MainIsThere}
-use Rattle.cl_cases.proofs.Giving.{each_gives}
+use Rattle.cl_cases.proofs.Giving.{one_each}
 
 abbrev means : (functions : List Function) (name : Name) (given : ℕ) (f : Function) → function_in functions name ≡ Some f → length f.parameters ≡ given → MeansFunction functions name given
 means functions name given f is same = record {
@@ -67,7 +68,7 @@ calls_mean_functions xs c x purpose clean =
     )
 
 pub parts_are_complete : PartsAreComplete
-parts_are_complete = (each_gives Value, each_gives Aim, each_gives PlainPart)
+parts_are_complete around = (one_each (value around), one_each (field_aim around), one_each (field_part around))
 
 arguments_count : (ps : List Parameter) (vs : List Value) → AreArguments ps vs → length ps ≡ length vs
 arguments_count [] [] h = refl

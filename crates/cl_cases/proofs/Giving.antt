@@ -1,5 +1,5 @@
 -- What is given in the end.
-use Rattle.std.proofs.Common.{◌≡◌, ◌+◌, List, [], ◌∷◌, ◌++◌, length, arith}
+use Rattle.std.proofs.Common.{◌≡◌, ◌+◌, List, [], ◌∷◌, ◌++◌, map, length, arith}
 use Rattle.std.proofs.lemmas.List.{length-append}
 use Rattle.cl_value.specs.Plain.{PlainRequest}
 use Rattle.cl_model.specs.Doing.{Steps, Gives, Prints, Asks, Stops, State, each_onto, each}
@@ -7,7 +7,7 @@ use Rattle.cl_meaning.specs.Variables.{Variables}
 use Rattle.cl_meaning.specs.Operations.{Does}
 use Rattle.cl_typing.specs.Steps.{Leads}
 use Rattle.cl_typing.proofs.Leading.{keeps_bind, keeps_more, keeps_pure}
-use Rattle.cl_cases.specs.Giving.{AlwaysGives, GiveOneEach}
+use Rattle.cl_cases.specs.Giving.{AlwaysGives, OneEach}
 
 -- each request may be asked, and variables may be any
 abbrev pub Any : PlainRequest → Type 0
@@ -25,16 +25,16 @@ anything (Stops t) = tt
 pub any_gives : {A : Type 0} (d : Does A) → AlwaysGives (λ a. Unit {0}) d
 any_gives d s w = anything (d s)
 
-module _ {A : Type 0} where
-  abbrev Longer : List A → List (Does A) → List A → Type 0
-  Longer done parts values = length values ≡ length done + length parts
+module _ {X A : Type 0} (f : X → Does A) where
+  abbrev Longer : List A → List X → List A → Type 0
+  Longer done xs values = length values ≡ length done + length xs
 
-  each_behind : (done : List A) (parts : List (Does A)) → AlwaysGives (Longer done parts) (each_onto done parts)
+  each_behind : (done : List A) (xs : List X) → AlwaysGives (Longer done xs) (each_onto done (map f xs))
   unfolding each_onto
   each_behind done [] = keeps_pure Any Wherever (Longer done []) done (omega arith)
-  each_behind done (part ∷ parts) = keeps_bind Any Wherever (λ a. Unit {0}) (Longer done (part ∷ parts)) part _ (any_gives part) (λ a u.
-      keeps_more Any Wherever (Longer (done ++ a ∷ []) parts) (Longer done (part ∷ parts)) (each_onto (done ++ a ∷ []) parts) (each_behind (done ++ a ∷ []) parts)
+  each_behind done (x ∷ xs) = keeps_bind Any Wherever (λ a. Unit {0}) (Longer done (x ∷ xs)) (f x) _ (any_gives (f x)) (λ a u.
+      keeps_more Any Wherever (Longer (done ++ a ∷ []) xs) (Longer done (x ∷ xs)) (each_onto (done ++ a ∷ []) (map f xs)) (each_behind (done ++ a ∷ []) xs)
       (λ values is. let one = length-append done (a ∷ []) in omega (arith, is, one)))
 
-pub each_gives : (A : Type 0) → GiveOneEach A
-each_gives A parts = keeps_more Any Wherever (Longer [] parts) (λ values. length values ≡ length parts) (each parts) (each_behind [] parts) (λ values is. omega (arith, is))
+  pub one_each : (xs : List X) → OneEach f xs
+  one_each xs = keeps_more Any Wherever (Longer [] xs) (λ values. length values ≡ length xs) (each (map f xs)) (each_behind [] xs) (λ values is. omega (arith, is))

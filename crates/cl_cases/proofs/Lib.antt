@@ -2,6 +2,7 @@ pub mod Called
 pub mod Exits
 pub mod Fields
 pub mod Giving
+mod HeadRows
 pub mod Heads
 pub mod Initials
 pub mod Listed

@@ -1,5 +1,5 @@
 -- A format without faults is filled in exactly.
-use Rattle.std.proofs.Common.{◌≡◌, ◌∙◌, ap, sym, subst, refl, ℕ, suc, ◌==◌, Bool, true, false, List, [], ◌∷◌, ◌++◌, map, length, Option, Some, None}
+use Rattle.std.proofs.Common.{◌≡◌, ◌∙◌, ap, sym, subst, refl, ℕ, ◌==◌, Bool, true, false, List, [], ◌∷◌, ◌++◌, map, length, Option, Some, None}
 use Rattle.std.proofs.lemmas.Bool.{eqb-true}
 use Rattle.std.proofs.lemmas.List.{append-nil}
 use Rattle.std.specs.Prelude.{if◌then◌else◌}
@@ -7,6 +7,7 @@ use Rattle.cl_value.specs.declared.value.Value.{Value}
 use Rattle.cl_ast.specs.declared.tree.Spanned.{Spanned}
 use Rattle.cl_ast.specs.declared.statement.Print.{Print}
 use Rattle.cl_model.specs.Doing.{each}
+use Rattle.cl_meaning.specs.Operations.{Does}
 use Rattle.cl_meaning.specs.Expressions.{value}
 use Rattle.cl_meaning.specs.Printing.{decimal_of, character_of, behind_first, filled}
 use Rattle.cl_types.specs.declared.directive.Directive.{Directive}
@@ -22,7 +23,7 @@ use Rattle.cl_types.specs.Statements.{arguments_notes, print_parts, print_notes}
 use Rattle.cl_types.proofs.Clean.{Clean, clean_split, none_found}
 use Rattle.cl_typing.proofs.Leading.{keeps_more}
 use Rattle.cl_cases.specs.Prints.{behind, taken, decimal, character, written, exactly_filled, PrintsAreExact}
-use Rattle.cl_cases.proofs.Giving.{Any, Wherever, each_gives}
+use Rattle.cl_cases.proofs.Giving.{Any, Wherever, one_each}
 
 -- ---- what `filled` does at each byte
 
@@ -121,12 +122,7 @@ print_exact x known clean vs same = by (directives_of x.format.bytes) refl clean
         let none = none_found (count_faults (length ds) (length x.arguments)) x.span.start (clean_split (found_all (count_faults (length ds) (length x.arguments)) x.span.start) (arguments_notes known ds x.arguments) c).0 in
         exact x.format.bytes stages.Text ds vs is (same ∙ sym (same_count (length ds) (length x.arguments) none))
 
-mapped : {A B : Type 0} (f : A → B) (xs : List A) → length (map f xs) ≡ length xs
-mapped f [] = refl
-mapped f (x ∷ xs) = ap suc (mapped f xs)
-
 pub prints_are_exact : PrintsAreExact
 prints_are_exact around x known clean =
-    let parts = map (λ (y : Spanned). value around y.expr) x.arguments in
-    keeps_more Any Wherever (λ vs. length vs ≡ length parts) (λ vs. exactly_filled x.format.bytes vs ≡ Some (filled x.format.bytes vs)) (each parts) (each_gives Value parts)
-    (λ vs same. print_exact x known clean vs (same ∙ mapped (λ (y : Spanned). value around y.expr) x.arguments))
+    let f : Spanned → Does Value = λ y. value around y.expr in
+    keeps_more Any Wherever (λ vs. length vs ≡ length x.arguments) (λ vs. exactly_filled x.format.bytes vs ≡ Some (filled x.format.bytes vs)) (each (map f x.arguments)) (one_each f x.arguments) (print_exact x known clean)

@@ -4,11 +4,15 @@ use Rattle.std.specs.List.{AllByRecursion}
 use Rattle.cl_value.specs.declared.value.Value.{Value}
 use Rattle.cl_value.specs.Plain.{PlainPart, Ready, Call as Calls, Lives}
 use Rattle.cl_ast.specs.declared.tree.TypeName.{TypeName}
+use Rattle.cl_ast.specs.declared.tree.Expr.{Expr}
+use Rattle.cl_ast.specs.declared.tree.Field.{Field}
 use Rattle.cl_ast.specs.declared.tree.Call.{Call, out-Call}
 use Rattle.cl_ast.specs.declared.statement.Function.{Function}
 use Rattle.cl_ast.specs.declared.statement.Item.{Item}
 use Rattle.cl_listing.specs.Names.{Name}
-use Rattle.cl_meaning.specs.Operations.{Does, Aim}
+use Rattle.cl_meaning.specs.Operations.{Does}
+use Rattle.cl_meaning.specs.Expressions.{Surroundings, value}
+use Rattle.cl_meaning.specs.Parts.{field_aim, field_part}
 use Rattle.cl_meaning.specs.Outer.{functions_of, number_of}
 use Rattle.cl_meaning.specs.Calls.{function_named}
 use Rattle.cl_types.specs.declared.context.Purpose.{Purpose}
@@ -20,7 +24,7 @@ use Rattle.cl_typing.specs.Bodies.{are_settled}
 use Rattle.cl_typing.specs.Standing.{function_in, Scene}
 use Rattle.cl_typing.specs.Texts.{outside, StartFits}
 use Rattle.cl_typing.specs.Laws.{NoFault}
-use Rattle.cl_cases.specs.Giving.{GiveOneEach}
+use Rattle.cl_cases.specs.Giving.{OneEach}
 
 -- A call of this name with so many values means a function of these, whatever would be given where there is none; its number tells it, and it
 -- has as many parameters.
@@ -43,9 +47,9 @@ CallsMeanFunctions =
     (xs : List Item) (c : Scene (functions_of xs) (outside xs)) (x : Call) (purpose : Purpose) → NoFault (judged_call x purpose c.known).notes →
     (m : MeansFunction (functions_of xs) (out-Call x).name.bytes (length (out-Call x).arguments)) × GivesAsCalled purpose m.function.result
 
--- so many values come of arguments as there are arguments, and so it is with fields
+-- so many values come of arguments as there are arguments, and so it is with the fields of operations
 abbrev pub PartsAreComplete : Type 0
-PartsAreComplete = GiveOneEach Value × GiveOneEach Aim × GiveOneEach PlainPart
+PartsAreComplete = (around : Surroundings) → ((xs : List Expr) → OneEach (value around) xs) × ((fields : List Field) → OneEach (field_aim around) fields) × ((fields : List Field) → OneEach (field_part around) fields)
 
 -- a call of a live tuple
 abbrev pub PartMeans : List Function → PlainPart → Type 0

@@ -1,5 +1,5 @@
 -- What is given in the end, whatever variables are and whatever is told that fits. (This project.)
-use Rattle.std.specs.Prelude.{◌≡◌, List, length}
+use Rattle.std.specs.Prelude.{◌≡◌, List, map, length}
 use Rattle.cl_value.specs.Plain.{PlainRequest}
 use Rattle.cl_meaning.specs.Variables.{Variables}
 use Rattle.cl_meaning.specs.Operations.{Does}
@@ -10,6 +10,6 @@ use Rattle.cl_typing.specs.Steps.{Keeps}
 abbrev pub AlwaysGives : {A : Type 0} → (A → Type 0) → Does A → Type 0
 AlwaysGives P d = Keeps (λ (q : PlainRequest). Unit {0}) (λ (all : Variables). Unit {0}) P d
 
--- parts give one value each
-abbrev pub GiveOneEach : Type 0 → Type 0
-GiveOneEach A = (parts : List (Does A)) → AlwaysGives (λ values. length values ≡ length parts) (each parts)
+-- one value for each part
+abbrev pub OneEach : {X A : Type 0} → (X → Does A) → List X → Type 0
+OneEach f xs = AlwaysGives (λ values. length values ≡ length xs) (each (map f xs))
