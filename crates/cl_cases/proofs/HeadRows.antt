@@ -1,6 +1,6 @@
 -- A tree that no tokens derive, by computing: the head of its `for` leaves, no fault is noted, and the meaning goes on behind it.
 use Rattle.std.proofs.Common.{◌≡◌, ℕ, List, [], ◌∷◌, refl}
-use Rattle.std.specs.Prelude.{true, codes, pos, Some, None}
+use Rattle.std.specs.Prelude.{true, false, codes, pos, Some, None}
 use denote.Hole.Carrier.{roll}
 use Rattle.cl_value.specs.declared.value.Value.TheVariants as values
 use Rattle.cl_value.specs.Plain.{Out, Main}
@@ -34,6 +34,7 @@ use Rattle.cl_types.specs.Statements.{walked, block_walked}
 use Rattle.cl_types.specs.Unit.{faults}
 use Rattle.cl_typing.specs.Bodies.{stands, is_settled, are_settled}
 use Rattle.cl_ast.specs.declared.statement.For.{roll-For}
+use Rattle.cl_cases.specs.Heads.{headed, is_headed, are_headed}
 
 -- what the definitions compute with
 computes : Unit {0}
@@ -62,6 +63,10 @@ abbrev head_returns : List Item
 head_returns = real_main (
     stmts.For (roll-For (record { first = Some (stmts.Return (record { value = None; span = at 0 })); test = Some (number 0); step = None; body = stmts.Empty (at 0); span = at 0 }))
     ∷ puts (number 1) ∷ [])
+
+unheaded_text : are_headed head_returns ≡ false
+unfolding computes headed is_headed
+unheaded_text = refl
 
 settled_text : are_settled head_returns ≡ true
 unfolding computes

@@ -2,7 +2,9 @@ pub mod Called
 pub mod Exits
 pub mod Fields
 pub mod Giving
+pub mod HeadDerived
 mod HeadRows
+pub mod Headed
 pub mod Heads
 pub mod Initials
 pub mod Listed

@@ -1,7 +1,7 @@
 ghost use Rattle.cl_cases.specs.Calls.{CallsMeanFunctions, PartsAreComplete, StartsMeanFunctions, MainIsThere};
 ghost use Rattle.cl_cases.specs.Exits.{StatementsLeave, FunctionsReturn};
 ghost use Rattle.cl_cases.specs.Fields.{FormalsReceive, FieldsHold, OutsAreComplete, EvalsAreEvaluated};
-ghost use Rattle.cl_cases.specs.Heads.{HeadsGoOn};
+ghost use Rattle.cl_cases.specs.Heads.{SourcesAreHeaded, HeadsGoOn};
 ghost use Rattle.cl_cases.specs.Initials.{SizesAreThere, FunctionsKnow, KnownEverywhere, GlobalsAreInitial};
 ghost use Rattle.cl_cases.specs.Listed.{EachIsListed};
 ghost use Rattle.cl_cases.specs.Loops.{EachLoopEnds};
@@ -12,9 +12,10 @@ ghost use Rattle.cl_cases.specs.Replies.{RepliesMayBeTold};
 /// Laws of calls, ways out, loops and prints. A call in which no fault is noted, a call of a process that
 /// begins as it fits, and process 0 mean functions of the text, with as many values as these have
 /// parameters; and parts give one value each. A statement in which no fault is noted leaves only a loop by
-/// `break` or `continue`, and returns a value only where its function gives one; what tokens put into the
-/// head of a `for` goes on. No turn of a loop is left behind the last that the meaning has. A `printf` in
-/// which no fault is noted has a value for each of its directives, and none is left. It does nothing.
+/// `break` or `continue`, and returns a value only where its function gives one. Whatever tokens derive has
+/// simple statements alone in the head of each `for`, and these go on. No turn of a loop is left behind the
+/// last that the meaning has. A `printf` in which no fault is noted has a value for each of its directives,
+/// and none is left. It does nothing.
 pub fn each_case_is_meant()
     ensures calls { CallsMeanFunctions }
     ensures parts { PartsAreComplete }
@@ -22,6 +23,7 @@ pub fn each_case_is_meant()
     ensures begins { MainIsThere }
     ensures exits { StatementsLeave }
     ensures returns { FunctionsReturn }
+    ensures sources { SourcesAreHeaded }
     ensures heads { HeadsGoOn }
     ensures loops { EachLoopEnds }
     ensures prints { PrintsAreExact }

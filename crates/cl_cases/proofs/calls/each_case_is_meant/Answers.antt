@@ -1,5 +1,6 @@
 use Rattle.cl_cases.proofs.Called.{calls_mean_functions, parts_are_complete, starts_mean_functions, main_is_there}
 use Rattle.cl_cases.proofs.Exits.{statements_leave_off, functions_return}
+use Rattle.cl_cases.proofs.HeadDerived.{sources_are_headed}
 use Rattle.cl_cases.proofs.Heads.{heads_go_on}
 use Rattle.cl_cases.proofs.Loops.{each_loop_ends}
 use Rattle.cl_cases.proofs.Prints.{prints_are_exact}
@@ -22,6 +23,9 @@ returns-clause-exits c = statements_leave_off
 
 pub returns-clause-returns : goal.returns-clause-returns
 returns-clause-returns c = functions_return
+
+pub returns-clause-sources : goal.returns-clause-sources
+returns-clause-sources c = sources_are_headed
 
 pub returns-clause-heads : goal.returns-clause-heads
 returns-clause-heads c = heads_go_on
