@@ -1,2 +1,13 @@
+pub mod Calls
+pub mod Exits
+pub mod Fields
+pub mod Giving
+pub mod Heads
+pub mod Initials
+pub mod Listed
+pub mod Loops
+pub mod Operands
 pub mod Outlines
 pub mod Places
+pub mod Prints
+pub mod Replies

@@ -67,7 +67,7 @@ module _ (extra : ℕ) where
 
   module _ (all : Fixed) where
     module _ (call : Name → List Value → Does Value) (h : (name : Name) (values : List Value) → Goes extra (call name values)) where
-      calls_go : CallsGo extra (surroundings all call)
+      pub calls_go : CallsGo extra (surroundings all call)
       calls_go = record { calls = h; lives = goes_live_call all.functions }
 
       goes_function : (f : Function) (given : List Variable) → Goes extra (body all call f given)
@@ -81,7 +81,7 @@ module _ (extra : ℕ) where
       goes_run f given = goes_also extra _ _ (goes_claim extra (frame_cells all.length_of f)) (goes_then extra _ _ (goes_function f given)
           (λ v. goes_also extra _ _ (goes_release extra (frame_cells all.length_of f)) (goes_pure extra v)))
 
-    goes_calls : (depth : ℕ) (name : Name) (values : List Value) → Goes extra (calls all depth name values)
+    pub goes_calls : (depth : ℕ) (name : Name) (values : List Value) → Goes extra (calls all depth name values)
     unfolding calls
     goes_calls zero name values = goes_named _ name _ (λ f. goes_then extra _ _ (goes_parameters f.parameters values) (λ given. goes_tick extra _ (goes_trap extra Value CallDepth))) all.functions
     goes_calls (suc more) name values = goes_named _ name _ (λ f. goes_then extra _ _ (goes_parameters f.parameters values)

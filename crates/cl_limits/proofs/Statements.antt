@@ -126,7 +126,7 @@ module _ (extra : ℕ) where
 
     -- ---- the rules
 
-    goes_or_true : (test : Option Expr) → Goes extra (or_true around length_of test)
+    pub goes_or_true : (test : Option Expr) → Goes extra (or_true around length_of test)
     unfolding or_true
     goes_or_true None = goes_pure extra (Int (pos 1))
     goes_or_true (Some x) = goes x
@@ -380,3 +380,6 @@ module _ (extra : ℕ) where
     -- the statements of a function
     pub goes_body : (x : Block) → Goes extra (body_does around length_of x)
     goes_body = s.ind-Block StmtHolds BlockHolds DoHolds ForHolds IfHolds WhileHolds every-Stmt every-Block every-Do every-For every-If every-While
+
+    pub goes_stmt : (x : Stmt) → Goes extra (does around length_of x)
+    goes_stmt = s.ind-Stmt StmtHolds BlockHolds DoHolds ForHolds IfHolds WhileHolds every-Stmt every-Block every-Do every-For every-If every-While

@@ -64,7 +64,7 @@ not_none xs h = by (has_main xs) h
     by false h = absurd h
 
 -- the function that is called `real_main`, which takes nothing
-abbrev Begins : List Function → Type 0
+abbrev pub Begins : List Function → Type 0
 Begins functions = (f : Function) × (function_in functions main_name ≡ Some f) × (f.parameters ≡ [])
 
 main_begins : (functions : List Function) (xs : List Item) → has_main xs ≡ true → AllByRecursion (λ (f : Function). function_in functions f.name.bytes ≡ Some f) (functions_of xs) → Begins functions
@@ -185,6 +185,10 @@ nothing_asked text functions site (x ∷ fs) = (λ ask suits. tt, nothing_asked 
 
 nothing_fine : (xs : List Item) → faults xs ≡ [] → are_settled xs ≡ true → AllByRecursion (FineHere (λ q. Unit {0}) xs) (functions_of xs)
 nothing_fine xs none settled = all_fine (λ q. Unit {0}) xs none settled (nothing_asked (λ bytes. text_number bytes (texts_of xs)) (functions_of xs) (λ place. site_at place (in_items xs)) (findings xs))
+
+-- it is there
+pub main_is : (xs : List Item) → faults xs ≡ [] → are_settled xs ≡ true → Begins (functions_of xs)
+main_is xs none settled = begins_main (λ q. Unit {0}) xs none (nothing_fine xs none settled)
 
 pub functions_have_scenes : FunctionsHaveScenes
 functions_have_scenes xs none settled before behind f is =
