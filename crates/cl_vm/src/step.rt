@@ -9,21 +9,32 @@ ghost use Rattle.cl_vm.specs.Runs.{CanCall, HasNeeds, Ran, Runs, Stepped};
 
 use crate::{Engine, Flow};
 use cl_code::{Instr, Program, each_height_is_met, each_instruction_leads_on};
+use core::mem::replace_with;
+
+// The instruction at an address.
+#[inline(always)]
+fn instruction_at(code: &[Instr], place: usize) -> &Instr
+    requires { place < length code.now }
+    ensures { slice_get code.now place ≡ Some result.now }
+{
+    &code[place]
+}
 
 impl Engine {
-    // The next instruction.
+    // The next instruction of the code, which is the program's.
     #[inline(always)]
-    fn fetch(&self, program: &Program) -> Instr
-        requires { Runs (plain_program program.now) self.now }
-        ensures here { slice_get (plain_program program.now).code self.now.place ≡ Some result }
-        ensures needs { HasNeeds (plain_program program.now) result self.now }
+    fn fetch<'a>(&self, program: &Program, code: &'a [Instr]) -> &'a Instr
+        requires runs { Runs (plain_program program.now) self.now }
+        requires code { code.now ≡ (plain_program program.now).code }
+        ensures here { slice_get (plain_program program.now).code self.now.place ≡ Some result.now }
+        ensures needs { HasNeeds (plain_program program.now) result.now self.now }
         ensures place { self.now.place + 1 < 2 ^ 32 }
         ensures valid { Valid (plain_program program.now) }
     {
         each_height_is_met();
         each_instruction_leads_on();
-        let parts = program.parts();
-        *parts.code.at(self.place)
+        let _parts = program.parts();
+        instruction_at(code, self.place)
     }
 
     // Calls the function of this number.
@@ -43,12 +54,12 @@ impl Engine {
     // Does an instruction of the program, behind which it stands.
     #[inline(always)]
     #[tactic(auto, unfolding(cl_code::specs::Machine::effect))]
-    fn perform(&mut self, program: &Program, i: Instr) -> Flow
-        requires needs { HasNeeds (plain_program program.now) i (record self.old { place = self.old.place - 1 }) }
+    fn perform(&mut self, program: &Program, i: &Instr) -> Flow
+        requires needs { HasNeeds (plain_program program.now) i.now (record self.old { place = self.old.place - 1 }) }
         requires place { (0 < self.old.place) × (self.old.place < 2 ^ 32) }
-        ensures { Acted (plain_program program.now) i self.old result self.new }
+        ensures { Acted (plain_program program.now) i.now self.old result self.new }
     {
-        match i {
+        match *i {
             Instr::PushInt(n) => self.push_number(i64::from(n)),
             Instr::PushLong(n) => self.push_number(n),
             Instr::LoadLocal(k) => self.load_local(k),
@@ -96,17 +107,32 @@ impl Engine {
         }
     }
 
-    /// Does one instruction.
+    /// Does one instruction of the code, which is the program's.
     #[inline(always)]
-    pub(crate) fn step(&mut self, program: &Program) -> Flow
-        requires { Runs (plain_program program.now) self.old }
+    pub(crate) fn step(&mut self, program: &Program, code: &[Instr]) -> Flow
+        requires runs { Runs (plain_program program.now) self.old }
+        requires code { code.now ≡ (plain_program program.now).code }
         ensures { Stepped (plain_program program.now) self.old result self.new }
     {
         each_height_is_met();
         each_instruction_leads_on();
-        let i = self.fetch(program);
+        let i = self.fetch(program, code);
         self.place += 1;
         self.perform(program, i)
+    }
+
+    // Does instructions up to a trap, an end, an operation or an output. What it owns it may keep in registers.
+    fn run_on(mut self, program: &Program) -> (Engine, Flow)
+        requires { Runs (plain_program program.now) self }
+        ensures { Ran (plain_program program.now) self result.1 result.0 }
+    {
+        let code = program.code();
+        'steps: loop {
+            match self.step(program, code) {
+                Flow::On => {}
+                flow => return (self, flow),
+            }
+        }
     }
 
     /// Does instructions up to a trap, an end, an operation or an output.
@@ -114,11 +140,6 @@ impl Engine {
         requires { Runs (plain_program program.now) self.old }
         ensures { Ran (plain_program program.now) self.old result self.new }
     {
-        'steps: loop {
-            match self.step(program) {
-                Flow::On => {}
-                flow => return flow,
-            }
-        }
+        replace_with(self, program, Engine::run_on)
     }
 }
