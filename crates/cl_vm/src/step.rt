@@ -11,21 +11,11 @@ use crate::{Engine, Flow};
 use cl_code::{Instr, Program, each_height_is_met, each_instruction_leads_on};
 use core::mem::replace_with;
 
-// The instruction at an address.
-#[inline(always)]
-fn instruction_at(code: &[Instr], place: usize) -> &Instr
-    requires { place < length code.now }
-    ensures { slice_get code.now place ≡ Some result.now }
-{
-    &code[place]
-}
-
 impl Engine {
-    // The next instruction of the code, which is the program's.
+    // The next instruction.
     #[inline(always)]
-    fn fetch<'a>(&self, program: &Program, code: &'a [Instr]) -> &'a Instr
-        requires runs { Runs (plain_program program.now) self.now }
-        requires code { code.now ≡ (plain_program program.now).code }
+    fn fetch<'a>(&self, program: &'a Program) -> &'a Instr
+        requires { Runs (plain_program program.now) self.now }
         ensures here { slice_get (plain_program program.now).code self.now.place ≡ Some result.now }
         ensures needs { HasNeeds (plain_program program.now) result.now self.now }
         ensures place { self.now.place + 1 < 2 ^ 32 }
@@ -33,8 +23,8 @@ impl Engine {
     {
         each_height_is_met();
         each_instruction_leads_on();
-        let _parts = program.parts();
-        instruction_at(code, self.place)
+        let parts = program.parts();
+        parts.code.at(self.place)
     }
 
     // Calls the function of this number.
@@ -107,28 +97,27 @@ impl Engine {
         }
     }
 
-    /// Does one instruction of the code, which is the program's.
+    /// Does one instruction.
     #[inline(always)]
-    pub(crate) fn step(&mut self, program: &Program, code: &[Instr]) -> Flow
-        requires runs { Runs (plain_program program.now) self.old }
-        requires code { code.now ≡ (plain_program program.now).code }
+    pub(crate) fn step(&mut self, program: &Program) -> Flow
+        requires { Runs (plain_program program.now) self.old }
         ensures { Stepped (plain_program program.now) self.old result self.new }
     {
         each_height_is_met();
         each_instruction_leads_on();
-        let i = self.fetch(program, code);
+        let i = self.fetch(program);
         self.place += 1;
         self.perform(program, i)
     }
 
-    // Does instructions up to a trap, an end, an operation or an output. What it owns it may keep in registers.
+    // Does instructions up to a trap, an end, an operation or an output. The place and the height of the stack of an
+    // engine that is owned stay in registers; behind a reference they are loaded and stored at each instruction.
     fn run_on(mut self, program: &Program) -> (Engine, Flow)
         requires { Runs (plain_program program.now) self }
         ensures { Ran (plain_program program.now) self result.1 result.0 }
     {
-        let code = program.code();
         'steps: loop {
-            match self.step(program, code) {
+            match self.step(program) {
                 Flow::On => {}
                 flow => return (self, flow),
             }

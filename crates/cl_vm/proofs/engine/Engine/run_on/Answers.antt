@@ -8,8 +8,8 @@ use Rattle.cl_vm.proofs.engine.Engine.run_on.Goals as goal
 pub steps-init : goal.steps-init
 steps-init c = (c.requires, λ behind replies. refl, λ depth claimed based. based)
 
-pub step-requires-clause-runs : goal.step-requires-clause-runs
-step-requires-clause-runs c = c.steps.invariant.0
+pub step-requires : goal.step-requires
+step-requires c = c.steps.invariant.0
 
 pub steps-smaller : goal.steps-smaller
 steps-smaller c = (subst (λ (f : Flow). Stepped (plain_program c.args.program.now) c.steps.self f c.step.new.self) c.in-On.is c.step.ensures).falls
