@@ -96,10 +96,7 @@ impl Memory {
         ensures number { self.old ≡ with_pushed result self.new }
         ensures room { length self.new.stack < self.new.space }
     {
-        let last = self.numbers.len() - 1;
-        let n = self.numbers[last];
-        self.numbers.truncate(last);
-        n
+        self.numbers.take_last()
     }
 
     /// The topmost numbers of the active function, so many; the topmost is the last.

@@ -9,21 +9,22 @@ ghost use Rattle.cl_vm.specs.Runs.{CanCall, HasNeeds, Ran, Runs, Stepped};
 
 use crate::{Engine, Flow};
 use cl_code::{Instr, Program, each_height_is_met, each_instruction_leads_on};
+use core::mem::replace_with;
 
 impl Engine {
     // The next instruction.
     #[inline(always)]
-    fn fetch(&self, program: &Program) -> Instr
+    fn fetch<'a>(&self, program: &'a Program) -> &'a Instr
         requires { Runs (plain_program program.now) self.now }
-        ensures here { slice_get (plain_program program.now).code self.now.place ≡ Some result }
-        ensures needs { HasNeeds (plain_program program.now) result self.now }
+        ensures here { slice_get (plain_program program.now).code self.now.place ≡ Some result.now }
+        ensures needs { HasNeeds (plain_program program.now) result.now self.now }
         ensures place { self.now.place + 1 < 2 ^ 32 }
         ensures valid { Valid (plain_program program.now) }
     {
         each_height_is_met();
         each_instruction_leads_on();
         let parts = program.parts();
-        *parts.code.at(self.place)
+        parts.code.at(self.place)
     }
 
     // Calls the function of this number.
@@ -43,12 +44,12 @@ impl Engine {
     // Does an instruction of the program, behind which it stands.
     #[inline(always)]
     #[tactic(auto, unfolding(cl_code::specs::Machine::effect))]
-    fn perform(&mut self, program: &Program, i: Instr) -> Flow
-        requires needs { HasNeeds (plain_program program.now) i (record self.old { place = self.old.place - 1 }) }
+    fn perform(&mut self, program: &Program, i: &Instr) -> Flow
+        requires needs { HasNeeds (plain_program program.now) i.now (record self.old { place = self.old.place - 1 }) }
         requires place { (0 < self.old.place) × (self.old.place < 2 ^ 32) }
-        ensures { Acted (plain_program program.now) i self.old result self.new }
+        ensures { Acted (plain_program program.now) i.now self.old result self.new }
     {
-        match i {
+        match *i {
             Instr::PushInt(n) => self.push_number(i64::from(n)),
             Instr::PushLong(n) => self.push_number(n),
             Instr::LoadLocal(k) => self.load_local(k),
@@ -109,16 +110,25 @@ impl Engine {
         self.perform(program, i)
     }
 
+    // Does instructions up to a trap, an end, an operation or an output. The place and the height of the stack of an
+    // engine that is owned stay in registers; behind a reference they are loaded and stored at each instruction.
+    fn run_on(mut self, program: &Program) -> (Engine, Flow)
+        requires { Runs (plain_program program.now) self }
+        ensures { Ran (plain_program program.now) self result.1 result.0 }
+    {
+        'steps: loop {
+            match self.step(program) {
+                Flow::On => {}
+                flow => return (self, flow),
+            }
+        }
+    }
+
     /// Does instructions up to a trap, an end, an operation or an output.
     pub(crate) fn run(&mut self, program: &Program) -> Flow
         requires { Runs (plain_program program.now) self.old }
         ensures { Ran (plain_program program.now) self.old result self.new }
     {
-        'steps: loop {
-            match self.step(program) {
-                Flow::On => {}
-                flow => return flow,
-            }
-        }
+        replace_with(self, program, Engine::run_on)
     }
 }

@@ -3,7 +3,7 @@ use Rattle.cl_code.specs.Plain.{plain_program}
 use Rattle.cl_vm.specs.Runs.{Stepped}
 use Rattle.cl_vm.specs.declared.engine.Flow.{Flow}
 use Rattle.cl_vm.proofs.Stepping.{leads_on}
-use Rattle.cl_vm.proofs.engine.Engine.run.Goals as goal
+use Rattle.cl_vm.proofs.engine.Engine.run_on.Goals as goal
 
 pub steps-init : goal.steps-init
 steps-init c = (c.requires, λ behind replies. refl, λ depth claimed based. based)
@@ -17,7 +17,7 @@ steps-smaller c = (subst (λ (f : Flow). Stepped (plain_program c.args.program.n
 pub steps-preserved : goal.steps-preserved
 steps-preserved c =
     let stepped = subst (λ (f : Flow). Stepped (plain_program c.args.program.now) c.steps.self f c.step.new.self) c.in-On.is c.step.ensures in
-    (stepped.runs, leads_on (plain_program c.args.program.now) c.args.self.now c.steps.self c.step.new.self c.steps.invariant.1 stepped.led, λ depth claimed based. stepped.based depth claimed (c.steps.invariant.2 depth claimed based))
+    (stepped.runs, leads_on (plain_program c.args.program.now) c.args.self c.steps.self c.step.new.self c.steps.invariant.1 stepped.led, λ depth claimed based. stepped.based depth claimed (c.steps.invariant.2 depth claimed based))
 
 pub returns-in_default : goal.returns-in_default
 returns-in_default c = record {
