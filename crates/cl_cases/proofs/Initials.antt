@@ -195,18 +195,18 @@ knows_all all scope more known is s name n e = let r = s.knows name n e in (r.0,
 -- ---- initial values
 
 module _ (scope : Scope) where
-  initial_literal : (x : Literal) → initial_number scope (exprs.Literal x) ≡ number (literal x.value)
+  pub initial_literal : (x : Literal) → initial_number scope (exprs.Literal x) ≡ number (literal x.value)
   unfolding initial_number
   initial_literal x = ap (initial_number scope) (sym (exprs.rolls-Literal x))
       ∙ expr_rolls ℤ (Unit {0}) (Unit {0}) (Unit {0}) (Unit {0}) (Unit {0}) (Unit {0}) ℤ ℤ (initial_step scope) (λ f. tt) (λ c. tt) (λ c. tt) (λ f. tt) (λ l. tt) (λ o. tt) (λ p. number (first_value (in_scope p.name.bytes scope nowhere).values)) (λ x. x.operand) (Expr-F.Literal x)
 
-  initial_place : (x : Place) → initial_number scope (exprs.Place x) ≡ number (first_value (in_scope (out-Place x).name.bytes scope nowhere).values)
+  pub initial_place : (x : Place) → initial_number scope (exprs.Place x) ≡ number (first_value (in_scope (out-Place x).name.bytes scope nowhere).values)
   unfolding initial_number
   initial_place x = ap (initial_number scope) (sym (exprs.rolls-Place x))
       ∙ (expr_rolls ℤ (Unit {0}) (Unit {0}) (Unit {0}) (Unit {0}) (Unit {0}) (Unit {0}) ℤ ℤ (initial_step scope) (λ f. tt) (λ c. tt) (λ c. tt) (λ f. tt) (λ l. tt) (λ o. tt) (λ p. number (first_value (in_scope p.name.bytes scope nowhere).values)) (λ x. x.operand) (Expr-F.Place x)
       ∙ place_opens ℤ (Unit {0}) (Unit {0}) (Unit {0}) (Unit {0}) (Unit {0}) (Unit {0}) ℤ ℤ (initial_step scope) (λ f. tt) (λ c. tt) (λ c. tt) (λ f. tt) (λ l. tt) (λ o. tt) (λ p. number (first_value (in_scope p.name.bytes scope nowhere).values)) (λ x. x.operand) x)
 
-  initial_negate : (x : Prefix) → initial_number scope (exprs.Negate x) ≡ neg_ℤ (initial_number scope (out-Prefix x).operand)
+  pub initial_negate : (x : Prefix) → initial_number scope (exprs.Negate x) ≡ neg_ℤ (initial_number scope (out-Prefix x).operand)
   unfolding initial_number
   initial_negate x = ap (initial_number scope) (sym (exprs.rolls-Negate x))
       ∙ (expr_rolls ℤ (Unit {0}) (Unit {0}) (Unit {0}) (Unit {0}) (Unit {0}) (Unit {0}) ℤ ℤ (initial_step scope) (λ f. tt) (λ c. tt) (λ c. tt) (λ f. tt) (λ l. tt) (λ o. tt) (λ p. number (first_value (in_scope p.name.bytes scope nowhere).values)) (λ x. x.operand) (Expr-F.Negate x)

@@ -8,6 +8,10 @@ pub mod Headed
 pub mod Heads
 pub mod Initials
 pub mod Listed
+mod LiteralDerived
+mod LiteralRules
+mod LiteralSentences
+mod LiteralTokens
 pub mod Loops
 pub mod Operands
 mod OutlineCalls
@@ -20,5 +24,14 @@ mod PlaceFacts
 mod PlaceLaws
 mod PlaceRows
 pub mod Prints
+mod RangeCalls
+mod RangeExpressions
+mod RangeGlobals
+mod RangeHistories
+mod RangeNumbers
+mod RangeRows
+mod RangeStatements
+mod RangeSteps
+mod RangeVariables
 pub mod Replies
 mod Rows

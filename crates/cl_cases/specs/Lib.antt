@@ -5,9 +5,11 @@ pub mod Giving
 pub mod Heads
 pub mod Initials
 pub mod Listed
+pub mod Literals
 pub mod Loops
 pub mod Operands
 pub mod Outlines
 pub mod Places
 pub mod Prints
+pub mod Ranges
 pub mod Replies
