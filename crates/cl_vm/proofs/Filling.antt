@@ -22,7 +22,6 @@ use Rattle.cl_code.specs.Rules.{is_of_number}
 use Rattle.cl_code.proofs.Requests.{then_ok, same_Ok}
 use Rattle.cl_code.proofs.Tests.{left, right}
 use Rattle.cl_vm.specs.Asking.{Filled, is_evaluated, is_receivable}
-use Rattle.cl_vm.specs.Small.{alone}
 
 -- one more was read before the others
 pub then_filled : {A B : Type 0} (items : A → List B) (more : A → A) (x : List B) → ((a : A) → items (more a) ≡ x ++ items a) →
@@ -103,7 +102,7 @@ number_read types others ns rest type n v r old mid new a b value e is =
 
 -- any program: no field that isn't a call looks at it
 abbrev pub any : PlainProgram
-any = alone [] [] 0 []
+any = record { code = []; heights = []; functions = []; main = 0; globals = []; texts = []; formats = []; sites = []; calls = []; sets = []; classes = [] }
 
 pub filled_ok : {A B : Type 0} (items : A → List B) (c : Checked A) (r : Result (Unit {0}) Trap) (u : Unit {0}) (old new : List B) → r ≡ Ok u → Filled items c r old new → (a : A) × (c ≡ Ok a) × (new ≡ old ++ items a)
 filled_ok items (Ok a) (Ok u) v old new e is = (a, refl, is)

@@ -19,4 +19,3 @@ pub mod LiveFields
 pub mod Begun
 pub mod Resumed
 pub mod StartFits
-pub mod TestRows

@@ -4,7 +4,6 @@ pub mod Engine
 pub mod Runs
 pub mod Printing
 pub mod Begins
-pub mod Small
 pub mod Asking
 pub mod Parts
 pub mod Buffers

@@ -1,8 +1,10 @@
 -- What tests know of a machine. (This project.)
-use Rattle.std.specs.Prelude.{ℕ, List, Some, None}
+use Rattle.std.specs.Prelude.{◌≡◌, ℕ, List, Some, None}
 use Rattle.cl_value.specs.Plain.{PlainReply, PlainStart}
+use Rattle.cl_value.specs.declared.process.Reply.{Reply}
 use Rattle.cl_code.specs.Plain.{PlainProgram}
-use Rattle.cl_vm.specs.Processes.{Answers, StandsFor, demand_now}
+use Rattle.cl_vm.specs.Hears.{plain_reply}
+use Rattle.cl_vm.specs.Processes.{Answers, FitsRequest, StandsFor, demand_now}
 use Rattle.cl_vm.specs.declared.vm.Demand.{Demand}
 use Rattle.cl_vm.specs.declared.vm.Vm.{Vm}
 
@@ -17,3 +19,7 @@ pub record StandsAfter (p : PlainProgram) (start : PlainStart) (demand : Demand)
 pub record StandsNew (p : PlainProgram) (start : PlainStart) (vm : Vm) : Type 0 where
   pub steps : ℕ
   pub stands : StandsFor p (record { steps = steps; start = start; told = None }) vm
+
+-- it stands at a request that this reply fits
+abbrev pub MayHear : Reply → Vm → Type 0
+MayHear reply vm = (told : PlainReply) × (plain_reply reply ≡ Some told) × FitsRequest told vm

@@ -18,8 +18,6 @@ mod requests;
 mod resuming;
 mod starting;
 mod step;
-#[cfg(test)]
-mod tests;
 mod values;
 mod vm;
 

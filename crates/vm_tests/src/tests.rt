@@ -1,15 +1,22 @@
+mod calls;
+mod instructions;
+mod live;
+mod operations;
+mod programs;
+mod trial;
+
 ghost use Rattle.std.specs.Prelude.{◌≡◌, ◌≤◌, [], IfOk, IsTrue};
 ghost use Rattle.cl_value.specs.Plain.{PlainStart};
 ghost use Rattle.cl_code.specs.Plain.{plain_program};
 ghost use Rattle.cl_code.specs.Rules.{keeps_rules};
 ghost use Rattle.cl_code.specs.Valid.{lists_are_short};
-ghost use Rattle.cl_vm.specs.Small.{alone};
+ghost use Rattle.vm_tests.specs.Small.{alone};
 ghost use Rattle.cl_vm.specs.Trials.{StandsAfter, StandsNew};
 
-use crate::{Demand, Vm};
 use cl_code::{Function, Instr, Program, ProgramParts};
 use cl_sig::Sets;
 use cl_value::{FieldType, Items, Limits, NoMemory, Reply, Start, Trap, Value};
+use cl_vm::{Demand, Vm};
 use std::alloc::Global;
 use std::test::Fail;
 

@@ -1,6 +1,6 @@
 use Rattle.std.proofs.Common.{[], None, refl}
 use Rattle.cl_vm.specs.Processes.{Past}
-use Rattle.cl_vm.proofs.tests.begin.Goals as goal
+use Rattle.vm_tests.proofs.tests.begin.Goals as goal
 
 pub resume-requires : goal.resume-requires
 resume-requires c =
