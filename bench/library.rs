@@ -1,4 +1,4 @@
-// The work of `store_bench queue N` and `store_bench keys-K N` with the collections of Rust's library.
+// The work of `bench_stores queue N` and `bench_stores keys-K N` with the collections of Rust's library.
 use std::collections::{HashMap, VecDeque};
 use std::io::BufRead;
 

@@ -1,4 +1,4 @@
-"""Measures the command `print`. Its one argument is the built program clinda."""
+"""Measures the command `print`. Its one argument is the built program clinda_main."""
 
 import os
 import shutil

@@ -1,4 +1,4 @@
-"""Measures the command `seq`, beside the same loops in python3. Its one argument is the built program clinda.
+"""Measures the command `seq`, beside the same loops in python3. Its one argument is the built program clinda_main.
 
 The times of the program include its start, those of python3 are of the loop alone.
 """

@@ -1,4 +1,4 @@
-"""Measures sets beside their stores alone. Its arguments are the built programs set_bench and store_bench."""
+"""Measures sets beside their stores alone. Its arguments are the built programs bench_sets and bench_stores."""
 
 import subprocess
 import sys

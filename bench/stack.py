@@ -1,4 +1,4 @@
-"""Measures how much stack the deepest runs need. Its one argument is the built program clinda.
+"""Measures how much stack the deepest runs need. Its one argument is the built program clinda_main.
 
 256 functions are to be active, which is the most there may be, and each calls the next one inside as many parts of
 one form as may stand in one another. Where too many are being done the program says so by status 8. For each form the

@@ -1,4 +1,4 @@
-"""Measures the stores of tuples. Its one argument is the built program store_bench."""
+"""Measures the stores of tuples. Its one argument is the built program bench_stores."""
 
 import shutil
 import subprocess

@@ -1,4 +1,4 @@
-"""Measures the drawing of tickets. Its one argument is the built program ticket_bench."""
+"""Measures the drawing of tickets. Its one argument is the built program bench_tickets."""
 
 import subprocess
 import sys

@@ -13,7 +13,7 @@ use Rattle.cl_model.proofs.Alone.{own_push}
 use Rattle.cl_walk.specs.Walked.{IsAnswered}
 use Rattle.cl_alone.specs.declared.pause.Pause.{Pause}
 use Rattle.cl_alone.specs.Moment.{Moment, beginning, next_act, after_act, MissesRightly, MissesFrom, Did, IsHistory}
-use Rattle.cl_alone.specs.Pauses.{IsPause, IsSound, told_of, said_of}
+use Rattle.cl_alone.specs.Pauses.{IsSound, told_of, said_of}
 use Rattle.cl_alone.specs.Performing.{IsDone}
 
 -- at first
@@ -72,7 +72,3 @@ done_sound old new request None d h = absurd d
 pub done_said : (old new : Moment) (request : PlainRequest) (reply : Option PlainReply) (pause : Option Pause) → IsDone old request reply new → IsAnswered request reply (said_of old pause) (said_of new None)
 done_said old new request (Some reply) pause d = answered old new pause request reply d
 done_said old new request None pause d = absurd d
-
--- where it wasn't done nothing has changed
-pub paused_sound : (old new : Moment) (pause : Pause) → new ≡ old → IsPause old pause → IsHistory old → IsSound new (Some pause)
-paused_sound old new pause same p h = subst (λ m. IsSound m (Some pause)) (sym same) (record { history = h; reason = p })

@@ -19,6 +19,7 @@ end_of_pause whys.Full = Some (HistoryFull 0)
 end_of_pause whys.NoMemory = Some NoMemory
 end_of_pause whys.Refused = None
 
+-- the end of a process that pauses; without a pause there is none
 abbrev pub end_at : Option Pause → Option PlainEnd
 end_at None = None
 end_at (Some pause) = end_of_pause pause.why

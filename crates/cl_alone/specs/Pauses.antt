@@ -36,6 +36,7 @@ PausesFor m request whys.Full = IsFullAt m request
 PausesFor m request whys.NoMemory = Unit {0}
 PausesFor m request whys.Refused = Unit {0}
 
+-- the process goes no further there, for its reason
 abbrev pub IsPause : Moment → Pause → Type 0
 IsPause m pause = PausesFor m (plain_request pause.request) pause.why
 

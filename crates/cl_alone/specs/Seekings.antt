@@ -16,6 +16,7 @@ ask_by seekings.Rd template = Rd template
 ask_by seekings.Inp template = Inp template
 ask_by seekings.Rdp template = Rdp template
 
+-- an operation of the text looks for a template
 abbrev pub request_by : ℕ → Seeking → List Slot → PlainRequest
 request_by site seeking template = record { site = site; ask = ask_by seeking template }
 

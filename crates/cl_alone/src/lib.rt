@@ -13,6 +13,3 @@ mod space;
 mod stage;
 
 pub use running::run_alone;
-
-#[cfg(test)]
-mod tests;

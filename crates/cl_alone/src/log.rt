@@ -1,4 +1,5 @@
-use cl_value::{Act, Items, NoMemory};
+use cl_ground::{Items, NoMemory};
+use cl_value::Act;
 use std::alloc::Global;
 use std::marker::Model;
 
@@ -15,7 +16,7 @@ pub struct Log {
 impl Model for Log {
     ghost use Rattle.std.specs.Prelude.{◌≡◌, map, min};
     ghost use Rattle.cl_value.specs.Plain.{PlainAct};
-    ghost use Rattle.cl_value.specs.Room.{Room};
+    ghost use Rattle.cl_ground.specs.Room.{Room};
     ghost use Rattle.cl_value.specs.Views.{plain_act};
 
     ghost Value = { Room PlainAct };
@@ -27,7 +28,7 @@ impl Model for Log {
 
 impl Log {
     ghost use Rattle.std.specs.Prelude.{◌≡◌, ◌-◌, ◌^◌, ◌<◌, ◌∷◌, ◌++◌, [], length, map, OnOk};
-    ghost use Rattle.cl_value.specs.Room.{Room};
+    ghost use Rattle.cl_ground.specs.Room.{Room};
     ghost use Rattle.cl_value.specs.Views.{plain_act};
 
     /// No act was done yet.

@@ -1,5 +1,6 @@
+ghost use Rattle.cl_ground.specs.declared.limits.TheConstants.{MOST_FIELDS};
 ghost use Rattle.std.specs.Prelude.{◌≡◌, true, false, is_some, Some};
-ghost use Rattle.cl_value.specs.Room.{HasRoom, capacity_of};
+ghost use Rattle.cl_ground.specs.Room.{HasRoom, capacity_of};
 ghost use Rattle.cl_value.specs.Replay.{first_match, found, replayed};
 ghost use Rattle.cl_store.specs.Rooms.{Stored};
 ghost use Rattle.cl_alone.specs.Seekings.{hit};
@@ -18,7 +19,7 @@ pub fn look<L: Ledger>(
     into: &mut Tuple,
     steps: &mut Steps<L>,
 ) -> bool
-    requires { HasRoom 16 into.old }
+    requires { HasRoom MOST_FIELDS into.old }
     ensures value { result ≡ is_some (first_match tuples.old.tuples template.now.items) }
     ensures found { result ≡ true → found tuples.old.tuples template.now.items ≡ Some into.new.items }
     ensures left { result ≡ true → tuples.new.tuples ≡ replayed tuples.old.tuples (hit seeking template.now.items into.new.items) }

@@ -1,4 +1,5 @@
-use cl_value::{NoMemory, Request};
+use cl_ground::NoMemory;
+use cl_value::Request;
 
 /// Why a process goes no further at an operation.
 #[derive(Clone, Copy, Debug, PartialEq, Eq)]

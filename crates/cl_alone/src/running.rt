@@ -3,8 +3,9 @@ use crate::pause::{Pause, Why};
 use crate::space::Space;
 use crate::stage::Stage;
 use cl_ast::Unit;
+use cl_ground::{Items, NoMemory};
 use cl_listing::Listing;
-use cl_value::{Act, End, History, Items, NoMemory, Report, RunReport, Start, Steps};
+use cl_value::{Act, End, History, Report, RunReport, Start, Steps};
 use cl_walk::{Ending, Walked, walk};
 use std::alloc::Global;
 use std::sync::ledger::Ledger;
@@ -17,10 +18,13 @@ struct Left {
     end: End,
 }
 
-ghost use Rattle.std.specs.Prelude.{◌≡◌, ◌≤◌, [], ◌∷◌, length, map, IfOk, Some};
-ghost use Rattle.cl_value.specs.Room.{Room};
+ghost use Rattle.std.specs.Prelude.{◌≡◌, ◌≤◌, List, [], ◌∷◌, length, map, IfOk, Some};
+ghost use Rattle.cl_ground.specs.Room.{Room};
 ghost use Rattle.cl_value.specs.Tickets.{acts_in};
 ghost use Rattle.cl_value.specs.Views.{plain_act, plain_end, plain_history, plain_run};
+ghost use Rattle.cl_ast.specs.declared.statement.Item.{Item};
+ghost use Rattle.cl_listing.specs.Listing.{in_items};
+ghost use Rattle.cl_listing.specs.Listed.{listing_of};
 ghost use Rattle.cl_model.specs.Good.{Turns};
 ghost use Rattle.cl_model.specs.Runs.{GoodRun};
 ghost use Rattle.cl_meaning.specs.Process.{demands};
@@ -29,14 +33,11 @@ ghost use Rattle.cl_alone.specs.Leaving.{Leaves};
 ghost use Rattle.cl_alone.specs.Reports.{one_history, run_of, status_at, IsRunStatus};
 ghost use Rattle.cl_alone.specs.Sets.{operations_in, meaning_of};
 
-// The number of operations of a text.
-fn count_operations(alloc: Global, unit: &Unit) -> Result<usize, NoMemory>
-    ensures { IfOk result (λ count. count ≡ operations_in unit.now.items) }
+// The number of operations of the text with this listing.
+fn count_operations(listing: &Listing<'_>) -> usize
+    ensures { (items : List Item) → listing.now ≡ listing_of (in_items items) → result ≡ operations_in items }
 {
-    match Listing::new(alloc, unit) {
-        Ok(listing) => Ok(listing.sites().len()),
-        Err(_) => Err(NoMemory),
-    }
+    listing.sites().len()
 }
 
 // The end of a process that pauses so. Where it was refused an operation, there is none.
@@ -72,19 +73,21 @@ fn end_of(ending: Ending, pause: Option<Pause>) -> Result<End, NoMemory>
 }
 
 // Walks process 0 in a space of its own.
-fn leave<L: Ledger>(
+fn leave<'a, L: Ledger>(
     alloc: Global,
-    unit: &Unit,
+    unit: &'a Unit,
+    listing: &'a Listing<'a>,
     ticks: u64,
     bounds: Bounds,
     steps: &mut Steps<L>,
 ) -> Result<Left, NoMemory>
+    requires { listing.now ≡ listing_of (in_items unit.now.items) }
     ensures sites { IfOk result (λ left. left.stage.sites ≡ bounds.sites) }
     ensures limit { IfOk result (λ left. left.stage.limit ≡ bounds.entries) }
     ensures leaves { IfOk result (λ left. Leaves (demands unit.now.items ticks) left.stage left.output.items (plain_end left.end)) }
 {
     let mut space = Space::new(alloc, bounds, steps);
-    let walked = walk(alloc, unit, &Start::Main, ticks, &mut space)?;
+    let walked = walk(alloc, unit, listing, &Start::Main, ticks, &mut space)?;
     let (stage, pause) = space.into_parts();
     // `walk` promises of a space what it was asked and what it answered, and so the bounds are looked at here
     if stage.bounds() != bounds {
@@ -157,21 +160,30 @@ fn report_of(alloc: Global, left: Left, operations: usize) -> Result<RunReport, 
     })
 }
 
-/// Runs process 0 of a text over one list of tuples: it may take so many ticks, and its history may have so many acts.
+/// Runs process 0 of a text, whose listing is handed in, over one list of tuples: it may take so many ticks, and its history may have so many acts.
 ///
 /// Where memory runs out for an operation, the process ends so; want of memory for anything else gives no report. Nor does an `eval`.
-pub fn run_alone<L: Ledger>(
+pub fn run_alone<'a, L: Ledger>(
     alloc: Global,
-    unit: &Unit,
+    unit: &'a Unit,
+    listing: &'a Listing<'a>,
     ticks: u64,
     entries: u32,
     steps: &mut Steps<L>,
 ) -> Result<RunReport, NoMemory>
+    requires { listing.now ≡ listing_of (in_items unit.now.items) }
     ensures good { IfOk result (λ run. GoodRun (meaning_of unit.now.items ticks entries) Turns (plain_run run)) }
     ensures few { IfOk result (λ run. length (acts_in (plain_run run).histories) ≤ entries) }
     ensures status { IfOk result (λ run. IsRunStatus run.status) }
 {
-    let sites = count_operations(alloc, unit)?;
-    let left = leave(alloc, unit, ticks, Bounds { sites, entries }, steps)?;
+    let sites = count_operations(listing);
+    let left = leave(
+        alloc,
+        unit,
+        listing,
+        ticks,
+        Bounds { sites, entries },
+        steps,
+    )?;
     report_of(alloc, left, sites)
 }

@@ -15,7 +15,7 @@ pub enum Seeking {
 
 impl Seeking {
     ghost use Rattle.std.specs.Prelude.{◌≡◌};
-    ghost use Rattle.cl_value.specs.Room.{Room};
+    ghost use Rattle.cl_ground.specs.Room.{Room};
     ghost use Rattle.cl_value.specs.Views.{plain_what};
     ghost use Rattle.cl_alone.specs.Seekings.{hit};
 

@@ -3,9 +3,10 @@ use crate::log::Log;
 use crate::looking::look;
 use crate::pause::Why;
 use crate::seeking::Seeking;
+use cl_ground::{Items, NoMemory};
 use cl_list::Listed;
 use cl_store::TupleStore;
-use cl_value::{Act, Ask, Items, NoMemory, Request, Steps, Template, Tuple, What};
+use cl_value::{Act, Ask, Request, Steps, Template, Tuple, What};
 use cl_walk::Answer;
 use std::alloc::Global;
 use std::marker::Model;
@@ -40,8 +41,9 @@ impl Model for Stage {
     ghost view = { λ s. record { acts = s.log.items; tuples = s.tuples.tuples; sites = s.bounds.sites; limit = s.bounds.entries } };
 }
 
+ghost use Rattle.cl_ground.specs.declared.limits.TheConstants.{MOST_FIELDS};
 ghost use Rattle.std.specs.Prelude.{◌≡◌, ◌<◌, OnOk, IfOk};
-ghost use Rattle.cl_value.specs.Room.{Room, HasRoom};
+ghost use Rattle.cl_ground.specs.Room.{Room, HasRoom};
 
 // Makes what an operation that looks for a tuple needs, and room for its act.
 fn prepare(alloc: Global, template: &Template, log: &mut Log) -> Result<Prepared, NoMemory>
@@ -49,9 +51,9 @@ fn prepare(alloc: Global, template: &Template, log: &mut Log) -> Result<Prepared
     ensures act { OnOk result (0 < log.new.spare) }
     ensures asked { IfOk result (λ p. p.asked.items ≡ template.now.items) }
     ensures again { IfOk result (λ p. p.asked_again.items ≡ template.now.items) }
-    ensures got_room { IfOk result (λ p. HasRoom 16 p.got) }
-    ensures again_room { IfOk result (λ p. HasRoom 16 p.again) }
-    ensures answer_room { IfOk result (λ p. HasRoom 16 p.answer) }
+    ensures got_room { IfOk result (λ p. HasRoom MOST_FIELDS p.got) }
+    ensures again_room { IfOk result (λ p. HasRoom MOST_FIELDS p.again) }
+    ensures answer_room { IfOk result (λ p. HasRoom MOST_FIELDS p.answer) }
 {
     let got = Tuple::with_room(alloc)?;
     let again = Tuple::with_room(alloc)?;
@@ -71,7 +73,7 @@ fn prepare(alloc: Global, template: &Template, log: &mut Log) -> Result<Prepared
 impl Stage {
     ghost use Rattle.std.specs.Prelude.{◌≡◌, ◌<◌, ◌≤◌, length, map, OnOk, OnErr, IfOk, IfErr};
     ghost use Rattle.cl_value.specs.Plain.{DidOut};
-    ghost use Rattle.cl_value.specs.Room.{Room};
+    ghost use Rattle.cl_ground.specs.Room.{Room};
     ghost use Rattle.cl_value.specs.Views.{plain_act, plain_what, plain_request};
     ghost use Rattle.cl_walk.specs.Views.{reply_in};
     ghost use Rattle.cl_alone.specs.Moment.{Moment, beginning, next_act, after_act};

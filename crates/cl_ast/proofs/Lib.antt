@@ -1,3 +1,5 @@
+pub mod Opens
+pub mod Inductions
 pub mod Fits
 pub mod Marks
 pub mod Rows

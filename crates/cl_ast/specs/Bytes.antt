@@ -21,9 +21,11 @@ is_blank byte = (byte == 32) || ((byte == 9) || is_between 11 13 byte)
 abbrev pub is_separator : ℕ → Bool
 is_separator byte = (byte == 32) || is_between 9 13 byte
 
+-- a decimal digit
 abbrev pub is_digit : ℕ → Bool
 is_digit byte = is_between 48 57 byte
 
+-- a digit, or a letter `A` to `F` of either case
 abbrev pub is_hexadecimal_digit : ℕ → Bool
 is_hexadecimal_digit byte = is_digit byte || (is_between 65 70 byte || is_between 97 102 byte)
 

@@ -51,6 +51,7 @@ abbrev pub based_end : List ℕ → Option (List ℕ) → LiteralEnd
 based_end bytes (Some digits) = hexadecimal_end bytes digits
 based_end bytes None = decimal_end bytes
 
+-- how a number that begins here ends
 abbrev pub number_end : List ℕ → LiteralEnd
 number_end bytes = based_end bytes (after_prefix bytes)
 
@@ -68,6 +69,7 @@ character_end_behind bytes more (Some x) =
     if begins_with (λ byte. byte == 39) x.1 then Ends (Character (character_meaning x.0)) (behind_first x.1)
     else (if is_line_cut x.1 then Fails faults.OpenString bytes else Fails faults.BadByte x.1)
 
+-- how a character behind its opening quote ends
 abbrev pub character_end : List ℕ → List ℕ → LiteralEnd
 character_end bytes more = character_end_behind bytes more (character_at more)
 
@@ -99,6 +101,7 @@ tail_on (Some start) [] = LineFails faults.OpenComment start
 tail_on (Some start) (byte ∷ []) = LineFails faults.OpenComment start
 tail_on (Some start) (byte ∷ next ∷ bytes) = if (byte == 42) && (next == 47) then tail_on None bytes else tail_on (Some start) (next ∷ bytes)
 
+-- how a define line ends behind its literal, where blanks and comments alone may stand
 unfoldable pub tail_end : List ℕ → LineEnd
 tail_end bytes = tail_on None bytes
 

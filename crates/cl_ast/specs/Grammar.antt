@@ -35,23 +35,29 @@ pub data Part : Type 0 where
   params : Part
   item : Part
 
+-- a rule over plain tokens, which names parts
 abbrev pub Row : Type 0
 Row = Rule PlainToken Part
 
 -- ---- tokens
 
+-- this mark
 abbrev pub mark : Mark → Row
 mark m = Token (mark_class m ∷ []) (sample (Punctuator m))
 
+-- this word
 abbrev pub word : Word → Row
 word w = Token (word_class w ∷ []) (sample (Keyword w))
 
+-- a name
 abbrev pub name : Row
 name = Token (0 ∷ []) (sample (Name []))
 
+-- a string
 abbrev pub text : Row
 text = Token (4 ∷ []) (sample (Str []))
 
+-- the front of a `#define` line
 abbrev pub define_word : Row
 define_word = Token (6 ∷ []) (sample Define)
 
@@ -67,9 +73,11 @@ size = Token (0 ∷ 1 ∷ 2 ∷ []) (sample (Name []))
 abbrev pub mark_of : Mark → List Mark → Row
 mark_of m ms = Token (mark_classes (m ∷ ms)) (sample (Punctuator m))
 
+-- one of some words: the first is named apart
 abbrev pub word_of : Word → List Word → Row
 word_of w ws = Token (word_classes (w ∷ ws)) (sample (Keyword w))
 
+-- a type of variables
 abbrev pub type_word : Row
 type_word = word_of words.Int (words.Long ∷ words.Char ∷ [])
 
@@ -92,11 +100,13 @@ list_of one = one ⨾ Many (mark marks.Comma ⨾ one)
 abbrev pub body : Row
 body = Symbol block ∣ Counted (Symbol plain)
 
+-- an expression in brackets
 abbrev pub condition : Row
 condition = in_brackets (Symbol expr)
 
 -- ---- the rules
 
+-- what each part is made of
 abbrev pub rules : Part → Row
 rules index = in_squares (Symbol expr)
 rules arguments = in_brackets (maybe (list_of (Symbol expr)))

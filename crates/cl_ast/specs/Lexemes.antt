@@ -28,6 +28,7 @@ abbrev pub character_spelling : Spelled → List ℕ
 character_spelling (Itself byte) = byte ∷ []
 character_spelling (Escape letter) = 92 ∷ letter ∷ []
 
+-- the bytes that spell some characters
 abbrev pub characters_spelling : List Spelled → List ℕ
 characters_spelling [] = []
 characters_spelling (c ∷ cs) = character_spelling c ++ characters_spelling cs
@@ -79,6 +80,7 @@ abbrev pub word_or : Option Word → Bool → List ℕ → PlainKind
 word_or (Some word) reserved bytes = Keyword word
 word_or None reserved bytes = if reserved then Reserved else Name bytes
 
+-- what letters are: a word, a reserved word, or else a name
 abbrev pub letters_kind : List ℕ → PlainKind
 letters_kind bytes = word_or (word_of bytes) (is_reserved bytes) bytes
 

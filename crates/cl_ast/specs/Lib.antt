@@ -2,11 +2,11 @@ pub mod Bytes
 pub mod Classes
 pub mod Ends
 pub mod Faults
+pub mod Folds
 pub mod Grammar
 pub mod Lexemes
 pub mod Pieces
 pub mod Plain
-pub mod Room
 pub mod Rows
 pub mod Splits
 pub mod Tables

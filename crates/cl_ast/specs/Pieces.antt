@@ -88,6 +88,7 @@ abbrev pub are_blanks : List ℕ → Bool
 are_blanks [] = false
 are_blanks (byte ∷ bytes) = is_blank byte && list_all is_blank bytes
 
+-- a name
 abbrev pub is_name_kind : PlainKind → Bool
 is_name_kind (Name bytes) = true
 is_name_kind _ = false
@@ -100,6 +101,7 @@ abbrev pub is_minus : Option (List ℕ) → Bool
 is_minus None = true
 is_minus (Some blanks) = list_all is_blank blanks
 
+-- a number or a character
 abbrev pub is_literal_kind : Option PlainKind → Bool
 is_literal_kind (Some (Int value)) = true
 is_literal_kind (Some (Long value)) = true

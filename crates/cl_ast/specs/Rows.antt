@@ -55,6 +55,7 @@ after_prefix _ = None
 abbrev pub decimal_row : List ℕ → List ℕ
 decimal_row bytes = if begins_with (λ byte. byte == 48) bytes then 48 ∷ [] else front_run is_digit bytes
 
+-- the bytes behind a decimal number
 abbrev pub after_decimal_row : List ℕ → List ℕ
 after_decimal_row bytes = if begins_with (λ byte. byte == 48) bytes then behind_first bytes else after_run is_digit bytes
 
@@ -62,6 +63,7 @@ after_decimal_row bytes = if begins_with (λ byte. byte == 48) bytes then behind
 abbrev pub suffix_row : List ℕ → List ℕ
 suffix_row bytes = if begins_with is_suffix bytes then take 1 bytes else []
 
+-- the bytes behind a suffix, if one is there
 abbrev pub after_suffix : List ℕ → List ℕ
 after_suffix bytes = if begins_with is_suffix bytes then behind_first bytes else bytes
 

@@ -125,5 +125,6 @@ rank item = 13
 abbrev pub language : Language PlainToken Part
 language = record { class_of = class_of; rules = rules; firsts = firsts; height = 14 }
 
+-- the grammar, with its tables
 abbrev pub bounds : Bounds PlainToken Part
 bounds = record { language = language; lasts = lasts; rank = rank }

@@ -83,17 +83,20 @@ kind_bytes _ = []
 abbrev pub token_bytes : Token → List ℕ
 token_bytes t = kind_bytes t.kind
 
+-- what a token means as a literal
 abbrev pub kind_constant : PlainKind → Constant
 kind_constant (kinds.Int value) = constants.Int value
 kind_constant (kinds.Long value) = constants.Long value
 kind_constant (kinds.Character byte) = constants.Character byte
 kind_constant _ = constants.Character 0
 
+-- the type that a word names
 abbrev pub kind_type : PlainKind → TypeName
 kind_type (kinds.Keyword words.Long) = types.Long
 kind_type (kinds.Keyword words.Char) = types.Char
 kind_type _ = types.Int
 
+-- the operation that a word names
 abbrev pub kind_verb : PlainKind → Verb
 kind_verb (kinds.Keyword words.In) = verbs.In
 kind_verb (kinds.Keyword words.Rd) = verbs.Rd
@@ -102,6 +105,7 @@ kind_verb (kinds.Keyword words.Rdp) = verbs.Rdp
 kind_verb (kinds.Keyword words.Eval) = verbs.Eval
 kind_verb _ = verbs.Out
 
+-- the operator that a mark is
 abbrev pub kind_operator : PlainKind → Operator
 kind_operator (kinds.Punctuator marks.And) = operators.And
 kind_operator (kinds.Punctuator marks.Equal) = operators.Equal
@@ -117,20 +121,25 @@ kind_operator (kinds.Punctuator marks.Divide) = operators.Divide
 kind_operator (kinds.Punctuator marks.Remainder) = operators.Remainder
 kind_operator _ = operators.Or
 
+-- whether a prefix operator is `!`
 abbrev pub is_not : PlainKind → Bool
 is_not (kinds.Punctuator marks.Not) = true
 is_not _ = false
 
+-- whether a step is `--`
 abbrev pub is_decrement : PlainKind → Bool
 is_decrement (kinds.Punctuator marks.Decrement) = true
 is_decrement _ = false
 
+-- the name that a token is
 abbrev pub to_name : Token → Name
 to_name t = record { bytes = token_bytes t; span = token_span t }
 
+-- the literal that a token is
 abbrev pub to_literal : Token → Literal
 to_literal t = record { value = kind_constant t.kind; span = token_span t }
 
+-- the string that a token is
 abbrev pub to_text : Token → Text
 to_text t = record { bytes = token_bytes t; span = token_span t }
 
@@ -183,6 +192,7 @@ to_primary ts (inr (inl x)) = to_named ts x.0 x.1
 to_primary ts (inr (inr (inl x))) = exprs.Operation (to_operation ts x.0 x.1)
 to_primary ts (inr (inr (inr x))) = x.1.0
 
+-- what a prefix operator makes of its operand: `!` or a minus
 abbrev pub to_prefix : Bool → Prefix → Expr
 to_prefix true x = exprs.Not x
 to_prefix false x = exprs.Negate x
@@ -218,12 +228,14 @@ abbrev pub place_span : Token → Index ⊎ Unit {0} → Span
 place_span t (inl x) = record { start = t.start; end = x.1 }
 place_span t (inr x) = token_span t
 
+-- the change that a mark makes with a value
 abbrev pub kind_change : PlainKind → Expr → Change
 kind_change (kinds.Punctuator marks.PlusAssign) x = changes.Add x
 kind_change (kinds.Punctuator marks.MinusAssign) x = changes.Subtract x
 kind_change (kinds.Punctuator marks.TimesAssign) x = changes.Multiply x
 kind_change _ x = changes.Set x
 
+-- the change that `--` or `++` is
 abbrev pub to_step : Bool → Change
 to_step true = changes.Decrement
 to_step false = changes.Increment
@@ -304,6 +316,7 @@ to_inner (inr x ∷ xs) = x ∷ to_inner xs
 abbrev pub Given : Type 0
 Given = Form × ℕ
 
+-- the size that a token is
 abbrev pub kind_size : Token → PlainKind → Size
 kind_size t (kinds.Name bytes) = sizes.Name (to_name t)
 kind_size t _ = sizes.Number (to_literal t)
@@ -334,6 +347,7 @@ to_params (inr x) = []
 abbrev pub to_function : List Token → Option TypeName → Token → List Parameter → Block → Item
 to_function ts r t ps b = items.Function (record { result = r; name = to_name t; parameters = ps; body = b; span = span_of ts })
 
+-- whether what may be left out is there
 abbrev pub is_there : {A : Type 0} → A ⊎ Unit {0} → Bool
 is_there (inl x) = true
 is_there (inr x) = false
@@ -406,5 +420,6 @@ build parts.variables ts x = to_variables ts x.0 (listed x.1.0)
 build parts.params ts x = to_params x.1.0
 build parts.item ts x = to_item ts x
 
+-- the trees that the parts mean
 abbrev pub meaning : Meaning rules
 meaning = record { of = tree_of; build = build }

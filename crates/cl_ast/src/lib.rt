@@ -5,19 +5,15 @@
 #![tactic(auto)]
 
 mod fault;
-mod items;
 mod mark;
 mod parse_end;
 mod span;
 mod statement;
-#[cfg(test)]
-mod tests;
 mod token;
 mod tree;
 mod word;
 
 pub use fault::LexKind;
-pub use items::{Items, NoMemory};
 pub use mark::{MARKS, Mark};
 pub use parse_end::ParseEnd;
 pub use span::Span;

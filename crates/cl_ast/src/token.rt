@@ -1,4 +1,5 @@
-use crate::{Items, Mark, Span, Word};
+use crate::{Mark, Span, Word};
+use cl_ground::Items;
 
 /// What a token is. (ISO/IEC 9899:1999, 6.4; which tokens there are: this project.)
 #[derive(Drop)]

@@ -53,7 +53,7 @@ use Rattle.cl_types.specs.Unit.{main_notes}
 use Rattle.cl_types.proofs.Sentences as sentences
 use Rattle.cl_types.proofs.Clean.{Clean, clean_split, clean_unit, none_found}
 use Rattle.cl_typing.proofs.Leading.{keeps_bind, keeps_then, keeps_pure, keeps_trap, keeps_if}
-use Rattle.cl_typing.proofs.Recursions as recursions
+use Rattle.cl_ast.proofs.Inductions.{StmtGoods, every_stmt as inductive_stmt, every_block as inductive_block}
 use Rattle.cl_cases.specs.Giving.{AlwaysGives}
 use Rattle.cl_cases.specs.Exits.{MayLeave, StatementsLeave, FunctionsReturn}
 use Rattle.cl_cases.proofs.Giving.{Any, Wherever, any_gives}
@@ -296,11 +296,14 @@ module _ (around : Surroundings) (length_of : Size → ℕ) where
       let P : List Stmt → Type 0 = λ xs. Clean (walks.in_order (map (λ y. in_context context (walked y)) xs) known).notes → Leaves context (in_order (map (does around length_of) xs)) in
       leaves_is context _ _ (meant.block_is around length_of x) (subst P h (statements_leave ys context known) (subst (λ (w : Walked). Clean w.notes) (sentences.block_is x context known) clean))
 
+  statement_goods : StmtGoods GoodStmt GoodBlock
+  statement_goods = record { block = block_good; empty = empty_good; variables = variables_good; assign = assign_good; call = call_good; operation = operation_good; print = print_good; break = break_good; continue = continue_good; return = return_good; choice = if_good; while_loop = while_good; do_loop = do_good; for_loop = for_good; statements = statements_good }
+
   every_stmt : (x : Stmt) → GoodStmt x
-  every_stmt = recursions.every_stmt GoodStmt GoodBlock block_good empty_good variables_good assign_good call_good operation_good print_good break_good continue_good return_good if_good while_good do_good for_good statements_good
+  every_stmt = inductive_stmt statement_goods
 
   every_block : (x : Block) → GoodBlock x
-  every_block = recursions.every_block GoodStmt GoodBlock block_good empty_good variables_good assign_good call_good operation_good print_good break_good continue_good return_good if_good while_good do_good for_good statements_good
+  every_block = inductive_block statement_goods
 
 pub statements_leave_off : StatementsLeave
 statements_leave_off around length_of x context known clean = every_stmt around length_of x context known clean

@@ -20,7 +20,6 @@ use Rattle.cl_ast.specs.declared.statement.Item.{Item}
 use Rattle.cl_ast.specs.declared.statement.Item.TheVariants as items
 use Rattle.cl_model.specs.Demand.{Wants}
 use Rattle.cl_model.specs.Doing.{then_do, ◌>>=◌, ◌>>◌, pure, trap, ask, variables, set_variables, print, tick, ticks_left, claim, release, checked, each_onto, through}
-use Rattle.cl_listing.specs.Folds as listing_folds
 use Rattle.cl_listing.specs.Listing.{in_expr, in_place, in_call, in_operation, in_block}
 use Rattle.cl_meaning.specs.Operations.{variable, place, value_at, store, formal, fill, received, requested, evaluated}
 use Rattle.cl_meaning.specs.Expressions.{truth_of, joined, called, live_part, expr_does, field_does, call_does, chain_does, link_does, formal_does, place_does, prefix_does, operation_by, operation_does, expr_meant, value, place_meant, call, operation}
@@ -28,7 +27,7 @@ use Rattle.cl_meaning.specs.Statements.{before, in_order, scoped, going_on, decl
 use Rattle.cl_meaning.specs.Outer.{initial_number, frame_cells}
 use Rattle.cl_meaning.specs.Calls.{parameter, parameters, arguments, result, function_named, live_call, body, run, calls}
 use Rattle.cl_meaning.specs.Process.{main, called_at, part_does, parts_do, live, process, demands}
-use Rattle.cl_types.specs.Folds.{folds}
+use Rattle.cl_ast.specs.Folds.{folds}
 use Rattle.cl_types.specs.Expressions.{judged, judged_place, judged_call, operation_notes, constant_of}
 use Rattle.cl_types.specs.Statements.{walked, block_walked}
 use Rattle.cl_types.specs.Unit.{faults}
@@ -38,7 +37,7 @@ use Rattle.cl_cases.specs.Heads.{headed, is_headed, are_headed}
 
 -- what the definitions compute with
 computes : Unit {0}
-unfolding folds listing_folds.folds roll judged judged_place judged_call operation_notes constant_of walked block_walked faults stands is_settled then_do ◌>>=◌ ◌>>◌ pure trap ask variables set_variables print tick ticks_left claim release checked each_onto through variable place value_at store formal fill received requested evaluated truth_of joined called live_part expr_does field_does call_does chain_does link_does formal_does place_does prefix_does operation_by operation_does expr_meant value place_meant call operation before in_order scoped going_on declare behind_body turn turns loop do_turn do_turns do_loop or_nothing or_true form_does declarator_does declaration_does updated change_does print_does returned stmt_does block_does do_does for_does if_does while_does does body_does in_expr in_place in_call in_operation in_block initial_number frame_cells parameter parameters arguments result function_named live_call body run calls main called_at part_does parts_do live process
+unfolding folds roll judged judged_place judged_call operation_notes constant_of walked block_walked faults stands is_settled then_do ◌>>=◌ ◌>>◌ pure trap ask variables set_variables print tick ticks_left claim release checked each_onto through variable place value_at store formal fill received requested evaluated truth_of joined called live_part expr_does field_does call_does chain_does link_does formal_does place_does prefix_does operation_by operation_does expr_meant value place_meant call operation before in_order scoped going_on declare behind_body turn turns loop do_turn do_turns do_loop or_nothing or_true form_does declarator_does declaration_does updated change_does print_does returned stmt_does block_does do_does for_does if_does while_does does body_does in_expr in_place in_call in_operation in_block initial_number frame_cells parameter parameters arguments result function_named live_call body run calls main called_at part_does parts_do live process
 computes = tt
 
 -- ---- how the text is written

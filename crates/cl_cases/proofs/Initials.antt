@@ -14,7 +14,6 @@ use Rattle.cl_ast.specs.declared.tree.TypeName.{TypeName}
 use Rattle.cl_ast.specs.declared.tree.TypeName.TheVariants as types
 use Rattle.cl_ast.specs.declared.tree.Expr.{Expr}
 use Rattle.cl_ast.specs.declared.tree.Expr.TheVariants as exprs
-use Rattle.cl_ast.specs.declared.tree.Expr.TheOpen.{Expr-F}
 use Rattle.cl_ast.specs.declared.tree.Place.{Place, out-Place}
 use Rattle.cl_ast.specs.declared.tree.Prefix.{Prefix, out-Prefix}
 use Rattle.cl_ast.specs.declared.statement.Stmt.{Stmt}
@@ -38,10 +37,10 @@ use Rattle.cl_ast.specs.declared.statement.Item.{Item}
 use Rattle.cl_ast.specs.declared.statement.Item.TheVariants as items
 use Rattle.cl_model.specs.Numbers.{number, is_within, byte_of}
 use Rattle.cl_listing.specs.Names.{Name, same_name}
-use Rattle.cl_listing.proofs.Opens.{expr_rolls, place_opens, prefix_opens}
+use Rattle.cl_ast.proofs.Opens as opens
 use Rattle.cl_meaning.specs.Operators.{literal, converted}
 use Rattle.cl_meaning.specs.Variables.{Variable, Scope, in_scope, nowhere}
-use Rattle.cl_meaning.specs.Outer.{with_sign, constant, natural, first_value, size_in, initial_step, initial_number, initial, form_values, with_globals, outer_from, outer}
+use Rattle.cl_meaning.specs.Outer.{with_sign, constant, natural, first_value, size_in, initial_steps, initial_number, initial, form_values, with_globals, outer_from, outer}
 use Rattle.cl_types.specs.declared.context.Context.{Context}
 use Rattle.cl_types.specs.declared.context.Reach.{Reach}
 use Rattle.cl_types.specs.declared.context.Reach.TheVariants as reaches
@@ -58,14 +57,14 @@ use Rattle.cl_types.specs.Statements.{Walked, in_order, size_kind, size_faults, 
 use Rattle.cl_types.specs.Items.{function_type, define_number, parameters_walked, body_walked, function_known, item_walked, items_walked, known_first}
 use Rattle.cl_types.specs.Unit.{main_notes, faults}
 use Rattle.cl_types.specs.EachTyped.{IsFound}
-use Rattle.cl_types.proofs.Inductions.{every_expr as judged_well}
+use Rattle.cl_types.proofs.Welltyped.{every_expr as judged_well}
 use Rattle.cl_types.proofs.Rules as rules
 use Rattle.cl_types.proofs.Sentences as sentences
 use Rattle.cl_types.proofs.Clean.{Clean, clean_split, clean_unit, none_found}
 use Rattle.cl_typing.specs.Values.{IsNumber}
 use Rattle.cl_typing.specs.Laws.{known_inside}
 use Rattle.cl_typing.proofs.Declaring.{declares_new, not_again}
-use Rattle.cl_typing.proofs.Inductions as inductions
+use Rattle.cl_ast.proofs.Inductions.{ExprGoods, every_expr}
 use Rattle.cl_typing.proofs.Operating.{literal_number}
 use Rattle.cl_typing.proofs.Texts.{first_seen}
 use Rattle.cl_cases.specs.Initials.{HasNumber, KnowsConstants, IsSize, SizesAreThere, FunctionsKnow, KnownEverywhere, ConstantIs, InitialIs, FormIs, DeclaratorsAre, ItemsAre, GlobalsAreInitial}
@@ -197,20 +196,17 @@ knows_all all scope more known is s name n e = let r = s.knows name n e in (r.0,
 module _ (scope : Scope) where
   pub initial_literal : (x : Literal) → initial_number scope (exprs.Literal x) ≡ number (literal x.value)
   unfolding initial_number
-  initial_literal x = ap (initial_number scope) (sym (exprs.rolls-Literal x))
-      ∙ expr_rolls ℤ (Unit {0}) (Unit {0}) (Unit {0}) (Unit {0}) (Unit {0}) (Unit {0}) ℤ ℤ (initial_step scope) (λ f. tt) (λ c. tt) (λ c. tt) (λ f. tt) (λ l. tt) (λ o. tt) (λ p. number (first_value (in_scope p.name.bytes scope nowhere).values)) (λ x. x.operand) (Expr-F.Literal x)
+  initial_literal x = opens.expr_literal (initial_steps scope) x
 
   pub initial_place : (x : Place) → initial_number scope (exprs.Place x) ≡ number (first_value (in_scope (out-Place x).name.bytes scope nowhere).values)
   unfolding initial_number
-  initial_place x = ap (initial_number scope) (sym (exprs.rolls-Place x))
-      ∙ (expr_rolls ℤ (Unit {0}) (Unit {0}) (Unit {0}) (Unit {0}) (Unit {0}) (Unit {0}) ℤ ℤ (initial_step scope) (λ f. tt) (λ c. tt) (λ c. tt) (λ f. tt) (λ l. tt) (λ o. tt) (λ p. number (first_value (in_scope p.name.bytes scope nowhere).values)) (λ x. x.operand) (Expr-F.Place x)
-      ∙ place_opens ℤ (Unit {0}) (Unit {0}) (Unit {0}) (Unit {0}) (Unit {0}) (Unit {0}) ℤ ℤ (initial_step scope) (λ f. tt) (λ c. tt) (λ c. tt) (λ f. tt) (λ l. tt) (λ o. tt) (λ p. number (first_value (in_scope p.name.bytes scope nowhere).values)) (λ x. x.operand) x)
+  initial_place x = (opens.expr_place (initial_steps scope) x
+      ∙ opens.place_opens (initial_steps scope) x)
 
   pub initial_negate : (x : Prefix) → initial_number scope (exprs.Negate x) ≡ neg_ℤ (initial_number scope (out-Prefix x).operand)
   unfolding initial_number
-  initial_negate x = ap (initial_number scope) (sym (exprs.rolls-Negate x))
-      ∙ (expr_rolls ℤ (Unit {0}) (Unit {0}) (Unit {0}) (Unit {0}) (Unit {0}) (Unit {0}) ℤ ℤ (initial_step scope) (λ f. tt) (λ c. tt) (λ c. tt) (λ f. tt) (λ l. tt) (λ o. tt) (λ p. number (first_value (in_scope p.name.bytes scope nowhere).values)) (λ x. x.operand) (Expr-F.Negate x)
-      ∙ ap neg_ℤ (prefix_opens ℤ (Unit {0}) (Unit {0}) (Unit {0}) (Unit {0}) (Unit {0}) (Unit {0}) ℤ ℤ (initial_step scope) (λ f. tt) (λ c. tt) (λ c. tt) (λ f. tt) (λ l. tt) (λ o. tt) (λ p. number (first_value (in_scope p.name.bytes scope nowhere).values)) (λ x. x.operand) x))
+  initial_negate x = (opens.expr_negate (initial_steps scope) x
+      ∙ ap neg_ℤ (opens.prefix_opens (initial_steps scope) x))
 
   module _ (known : Known) (knows : KnowsConstants scope known) where
     -- where it is a constant the meaning computes its number
@@ -248,9 +244,11 @@ module _ (scope : Scope) where
         by None h e = absurd cc
         by (Some m) h e = let same : negated m ≡ n = cc in initial_negate x ∙ (ap neg_ℤ (g m h) ∙ (signs m.is_negative (literal_value m.literal) ∙ ap number_value same))
 
+    goods : ExprGoods GoodExpr (λ x. Unit {0}) (λ x. Unit {0}) (λ x. Unit {0}) (λ x. Unit {0}) (λ x. Unit {0})
+    goods = record { literal = literal_good; named = λ x g. place_good x; called = λ x g. no_constant (exprs.Call x) (rules.constant_call x known); operating = λ x g. no_constant (exprs.Operation x) (rules.constant_operation x known); chained = λ x g. no_constant (exprs.Chain x) (rules.constant_chain x known); negated = negate_good; denied = λ x g. no_constant (exprs.Not x) (rules.constant_not x known); text = λ x. tt; formal = λ x g. tt; plain = λ x g. tt; place = λ x i e. tt; call = λ x ys e. tt; operation = λ x ys e. tt; chain = λ x g ys e. tt }
+
     initial_is : (x : Expr) → GoodExpr x
-    initial_is = inductions.every_expr GoodExpr (λ x. Unit {0}) (λ x. Unit {0}) (λ x. Unit {0}) (λ x. Unit {0}) (λ x. Unit {0}) literal_good (λ x g. place_good x) (λ x g. no_constant (exprs.Call x) (rules.constant_call x known)) (λ x g. no_constant (exprs.Operation x) (rules.constant_operation x known))
-        (λ x g. no_constant (exprs.Chain x) (rules.constant_chain x known)) negate_good (λ x g. no_constant (exprs.Not x) (rules.constant_not x known)) (λ x. tt) (λ x g. tt) (λ x g. tt) (λ x i e. tt) (λ x ys e. tt) (λ x ys e. tt) (λ x g ys e. tt)
+    initial_is = every_expr goods
 
 initial_found : (scope : Scope) (known : Known) → KnowsConstants scope known → (t : TypeName) (x : Expr) (place : ℕ) → Clean (judged x known).notes → Clean (found_all (initial_faults reaches.Global t (judged x known).type (constant_of x known)) place) → InitialIs scope known t x
 initial_found scope known knows t x place own noted = by (judged x known).type ((judged_well x known).clean own).0 (constant_of x known) refl (none_found (initial_faults reaches.Global t (judged x known).type (constant_of x known)) place noted)

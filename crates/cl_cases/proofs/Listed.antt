@@ -55,8 +55,8 @@ use Rattle.cl_types.specs.Adds.{alone_forms, maybe_stmt_forms}
 use Rattle.cl_types.specs.Items.{known_first}
 use Rattle.cl_types.proofs.Finding as finding
 use Rattle.cl_types.proofs.Stating as stating
-use Rattle.cl_typing.proofs.Inductions as inductions
-use Rattle.cl_typing.proofs.Recursions as recursions
+use Rattle.cl_ast.proofs.Inductions.{ExprGoods, every_expr as inductive_expr, every_place as inductive_place, every_call as inductive_call, every_operation as inductive_operation}
+use Rattle.cl_ast.proofs.Inductions.{StmtGoods, every_block as inductive_block}
 use Rattle.cl_cases.specs.Listed.{text_rule, OfText, IsListed, EachIsListed}
 
 -- ---- among entries
@@ -275,17 +275,20 @@ chain_good x g ys h known =
     moved _ (in_expr first ++ joined (map in_link others)) _ (expr_forms first known ++ each link_forms others known) (listing.chain_is x) (finding.chain_is x known)
     (both (in_expr first) (joined (map in_link others)) (expr_forms first known) (each link_forms others known) (g known) (subst (λ (ls : List Link). Within (joined (map in_link ls)) (each link_forms ls known)) h (links_within ys known)))
 
+goods : ExprGoods GoodExpr GoodField GoodCall GoodChain GoodOperation GoodPlace
+goods = record { literal = literal_good; named = named_good; called = called_good; operating = operating_good; chained = chained_good; negated = negate_good; denied = not_good; text = text_good; formal = formal_good; plain = plain_good; place = place_good; call = call_good; operation = operation_good; chain = chain_good }
+
 every_expr : (x : Expr) → GoodExpr x
-every_expr = inductions.every_expr GoodExpr GoodField GoodCall GoodChain GoodOperation GoodPlace literal_good named_good called_good operating_good chained_good negate_good not_good text_good formal_good plain_good place_good call_good operation_good chain_good
+every_expr = inductive_expr goods
 
 every_place : (x : Place) → GoodPlace x
-every_place = inductions.every_place GoodExpr GoodField GoodCall GoodChain GoodOperation GoodPlace literal_good named_good called_good operating_good chained_good negate_good not_good text_good formal_good plain_good place_good call_good operation_good chain_good
+every_place = inductive_place goods
 
 every_call : (x : Call) → GoodCall x
-every_call = inductions.every_call GoodExpr GoodField GoodCall GoodChain GoodOperation GoodPlace literal_good named_good called_good operating_good chained_good negate_good not_good text_good formal_good plain_good place_good call_good operation_good chain_good
+every_call = inductive_call goods
 
 every_operation : (x : Operation) → GoodOperation x
-every_operation = inductions.every_operation GoodExpr GoodField GoodCall GoodChain GoodOperation GoodPlace literal_good named_good called_good operating_good chained_good negate_good not_good text_good formal_good plain_good place_good call_good operation_good chain_good
+every_operation = inductive_operation goods
 
 -- ---- statements
 
@@ -405,8 +408,11 @@ statements_good : (x : Block) (ys : List ((y : Stmt) × GoodStmt y)) → map (λ
 statements_good x ys h known = moved _ (joined (map in_stmt (out-Block x).statements)) _ (onward stmt_forms known_behind (out-Block x).statements known) (entries.block_is x) (stating.block_is x known)
     (subst (λ (xs : List Stmt). Within (joined (map in_stmt xs)) (onward stmt_forms known_behind xs known)) h (stmts_within ys known))
 
+statement_goods : StmtGoods GoodStmt GoodBlock
+statement_goods = record { block = block_good; empty = empty_good; variables = variables_good; assign = assign_good; call = call_stmt_good; operation = operation_stmt_good; print = print_good; break = break_good; continue = continue_good; return = return_good; choice = if_good; while_loop = while_good; do_loop = do_good; for_loop = for_good; statements = statements_good }
+
 every_block : (x : Block) → GoodBlock x
-every_block = recursions.every_block GoodStmt GoodBlock block_good empty_good variables_good assign_good call_stmt_good operation_stmt_good print_good break_good continue_good return_good if_good while_good do_good for_good statements_good
+every_block = inductive_block statement_goods
 
 -- ---- texts
 

@@ -50,10 +50,6 @@ none_inside [] = refl
 none_inside (scope ∷ []) = ap (λ x. x ∷ []) (append-nil scope)
 none_inside (scope ∷ next ∷ inner) = ap (λ xs. scope ∷ xs) (none_inside (next ∷ inner))
 
--- what stands behind the first scope
-behind_scope : (more : List Shape) (scope next : List Shape) (inner : List (List Shape)) → with_inside more (scope ∷ with_inside [] (next ∷ inner)) ≡ scope ∷ with_inside more (next ∷ inner)
-behind_scope more scope next inner = ap (λ xs. with_inside more (scope ∷ xs)) (none_inside (next ∷ inner))
-
 twice_inside : (first second : List Shape) (o : List (List Shape)) → with_inside second (with_inside first o) ≡ with_inside (first ++ second) o
 twice_inside first second [] = refl
 twice_inside first second (scope ∷ []) = ap (λ x. x ∷ []) (append_assoc scope first second)

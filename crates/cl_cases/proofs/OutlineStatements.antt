@@ -44,7 +44,7 @@ use Rattle.cl_meaning.proofs.Sentences as meant
 use Rattle.cl_typing.specs.Bodies.{Standing, alone, alone_if_any, stands}
 use Rattle.cl_typing.proofs.Settled as settled
 use Rattle.cl_typing.proofs.Settled.{both_true, alone_is}
-use Rattle.cl_typing.proofs.Recursions as recursions
+use Rattle.cl_ast.proofs.Inductions.{StmtGoods, every_stmt as inductive_stmt, every_block as inductive_block}
 use Rattle.cl_cases.proofs.OutlineSteps.{Quiet, Same, Grown, Within, then_ends, within_more}
 use Rattle.cl_cases.proofs.OutlineSteps as steps
 use Rattle.cl_cases.proofs.OutlineShapes.{declared_adds, left_outline, quiet_same, same_same, same_grown, quiet_grown, grown_grown}
@@ -55,9 +55,6 @@ use Rattle.cl_cases.proofs.OutlineExpressions.{CallsStay, same_bind, same_then, 
 module _ (T : State Variables → State Variables → Type 0) (from_same : (s t : State Variables) → Same s t → T s t) (chain : (s t u : State Variables) → T s t → T t u → T s u) where
   from_quiet : (s t : State Variables) → Quiet s t → T s t
   from_quiet s t h = from_same s t (quiet_same s t h)
-
-  pub within_same : {A : Type 0} (d : Does A) → Within Same d → Within T d
-  within_same d h = within_more Same T from_same d h
 
   bind : {A B : Type 0} (d : Does A) (f : A → Does B) → Within T d → ((a : A) → Within T (f a)) → Within T (d >>= f)
   bind d f h k = steps.within_bind T from_quiet chain d f h k
@@ -332,11 +329,14 @@ module _ (around : Surroundings) (stay : CallsStay around) (length_of : Size →
 
   -- ---- every statement
 
+  statement_goods : StmtGoods GoodStmt GoodBlock
+  statement_goods = record { block = block_good; empty = empty_good; variables = variables_good; assign = assign_good; call = call_good; operation = operation_good; print = print_good; break = break_good; continue = continue_good; return = return_good; choice = if_good; while_loop = while_good; do_loop = do_good; for_loop = for_good; statements = statements_good }
+
   pub every_stmt : (x : Stmt) → GoodStmt x
-  every_stmt = recursions.every_stmt GoodStmt GoodBlock block_good empty_good variables_good assign_good call_good operation_good print_good break_good continue_good return_good if_good while_good do_good for_good statements_good
+  every_stmt = inductive_stmt statement_goods
 
   pub every_block : (x : Block) → GoodBlock x
-  every_block = recursions.every_block GoodStmt GoodBlock block_good empty_good variables_good assign_good call_good operation_good print_good break_good continue_good return_good if_good while_good do_good for_good statements_good
+  every_block = inductive_block statement_goods
 
   pub block_same : (x : Block) → Within Same (does around length_of (stmts.Block x))
   block_same x = subst (λ (e : Does Exit). Within Same e) (sym (meant.of_block around length_of x)) (scoped_same (body_does around length_of x) (every_block x))

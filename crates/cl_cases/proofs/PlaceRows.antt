@@ -26,7 +26,6 @@ use Rattle.cl_ast.specs.declared.statement.Item.{Item}
 use Rattle.cl_ast.specs.declared.statement.Item.TheVariants as items
 use Rattle.cl_model.specs.Demand.{Wants}
 use Rattle.cl_model.specs.Doing.{then_do, ◌>>=◌, ◌>>◌, pure, trap, ask, variables, set_variables, print, tick, ticks_left, claim, release, checked, each_onto, through}
-use Rattle.cl_listing.specs.Folds as listing_folds
 use Rattle.cl_listing.specs.Listing.{in_expr, in_place, in_call, in_operation, in_block}
 use Rattle.cl_meaning.specs.Operations.{variable, place, value_at, store, formal, fill, received, requested, evaluated}
 use Rattle.cl_meaning.specs.Expressions.{truth_of, joined, called, live_part, expr_does, field_does, call_does, chain_does, link_does, formal_does, place_does, prefix_does, operation_by, operation_does, expr_meant, value, place_meant, call, operation}
@@ -37,7 +36,7 @@ use Rattle.cl_meaning.specs.Process.{main, called_at, part_does, parts_do, live,
 use Rattle.cl_meaning.specs.Variables.{Variable, Variables, has, found, nowhere, element, with_element, changed, declared, left}
 use Rattle.cl_types.specs.declared.fault.TypeKind.TheVariants as kinds
 use Rattle.cl_types.specs.declared.fault.Fault.{Fault}
-use Rattle.cl_types.specs.Folds.{folds}
+use Rattle.cl_ast.specs.Folds.{folds}
 use Rattle.cl_types.specs.Expressions.{judged, judged_place, judged_call, operation_notes, constant_of}
 use Rattle.cl_types.specs.Statements.{walked, block_walked}
 use Rattle.cl_types.specs.Unit.{faults}
@@ -46,7 +45,7 @@ use Rattle.cl_cases.specs.Places.{IsThere}
 
 -- what the definitions compute with
 computes : Unit {0}
-unfolding folds listing_folds.folds roll judged judged_place judged_call operation_notes constant_of walked block_walked faults then_do ◌>>=◌ ◌>>◌ pure trap ask variables set_variables print tick ticks_left claim release checked each_onto through variable place value_at store formal fill received requested evaluated truth_of joined called live_part expr_does field_does call_does chain_does link_does formal_does place_does prefix_does operation_by operation_does expr_meant value place_meant call operation before in_order scoped going_on declare behind_body turn turns loop do_turn do_turns do_loop or_nothing or_true form_does declarator_does declaration_does updated change_does print_does returned stmt_does block_does do_does for_does if_does while_does does body_does in_expr in_place in_call in_operation in_block initial_number frame_cells parameter parameters arguments result function_named live_call body run calls main called_at part_does parts_do live process
+unfolding folds roll judged judged_place judged_call operation_notes constant_of walked block_walked faults then_do ◌>>=◌ ◌>>◌ pure trap ask variables set_variables print tick ticks_left claim release checked each_onto through variable place value_at store formal fill received requested evaluated truth_of joined called live_part expr_does field_does call_does chain_does link_does formal_does place_does prefix_does operation_by operation_does expr_meant value place_meant call operation before in_order scoped going_on declare behind_body turn turns loop do_turn do_turns do_loop or_nothing or_true form_does declarator_does declaration_does updated change_does print_does returned stmt_does block_does do_does for_does if_does while_does does body_does in_expr in_place in_call in_operation in_block initial_number frame_cells parameter parameters arguments result function_named live_call body run calls main called_at part_does parts_do live process
 computes = tt
 
 -- ---- variables

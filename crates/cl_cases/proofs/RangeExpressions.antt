@@ -38,7 +38,7 @@ use Rattle.cl_meaning.specs.Operations.{Does, Aim, Holds, Fills, index_of, place
 use Rattle.cl_meaning.specs.Expressions.{Surroundings, truth_of, joined, value, place_meant, call, operation}
 use Rattle.cl_meaning.specs.Parts.{field_aim, field_part, link_value, chain_value}
 use Rattle.cl_meaning.proofs.Equations as equations
-use Rattle.cl_typing.proofs.Inductions as inductions
+use Rattle.cl_ast.proofs.Inductions.{ExprGoods, every_expr as inductive_expr, every_place, every_call, every_operation}
 use Rattle.cl_cases.specs.Literals.{all_fit, expr_fits, place_fits, call_fits, operation_fits, field_fits, chain_fits, link_fits, expr_fits_if_any}
 use Rattle.cl_cases.specs.Ranges.{IsWithin, IsNumberWithin, VariableWithin, AllWithin, SlotWithin, PartWithin, AskWithin, ReplyWithin, StaysWithin, AimWithin, VariablesStayWithin}
 use Rattle.cl_cases.proofs.LiteralRules as fitting
@@ -350,20 +350,23 @@ module _ (around : Surroundings) (stay : CallsStay around) where
 
   -- ---- every expression
 
+  goods : ExprGoods GoodExpr GoodField GoodCall GoodChain GoodOperation GoodPlace
+  goods = record { literal = literal_good; named = named_good; called = called_good; operating = operating_good; chained = chained_good; negated = negate_good; denied = not_good; text = text_good; formal = formal_good; plain = plain_good; place = place_good; call = call_good; operation = operation_good; chain = chain_good }
+
   every_expr : (x : Expr) → GoodExpr x
-  every_expr = inductions.every_expr GoodExpr GoodField GoodCall GoodChain GoodOperation GoodPlace literal_good named_good called_good operating_good chained_good negate_good not_good text_good formal_good plain_good place_good call_good operation_good chain_good
+  every_expr = inductive_expr goods
 
   pub value_stays : (x : Expr) → expr_fits x ≡ true → ValueStays x
   value_stays x ok = (every_expr x ok).0
 
   pub place_stays : (x : Place) → place_fits x ≡ true → StaysWithin Any (place_meant around x).at
-  place_stays = inductions.every_place GoodExpr GoodField GoodCall GoodChain GoodOperation GoodPlace literal_good named_good called_good operating_good chained_good negate_good not_good text_good formal_good plain_good place_good call_good operation_good chain_good
+  place_stays = every_place goods
 
   pub called_stays : (x : Call) → call_fits x ≡ true → StaysWithin IsNumberWithin (call around x)
-  called_stays x ok = call_stays x (inductions.every_call GoodExpr GoodField GoodCall GoodChain GoodOperation GoodPlace literal_good named_good called_good operating_good chained_good negate_good not_good text_good formal_good plain_good place_good call_good operation_good chain_good x) ok
+  called_stays x ok = call_stays x (every_call goods x) ok
 
   pub operation_stays : (x : Operation) → operation_fits x ≡ true → StaysWithin IsNumberWithin (operation around x)
-  operation_stays = inductions.every_operation GoodExpr GoodField GoodCall GoodChain GoodOperation GoodPlace literal_good named_good called_good operating_good chained_good negate_good not_good text_good formal_good plain_good place_good call_good operation_good chain_good
+  operation_stays = every_operation goods
 
   field_of : (y : Field-F Expr Field Call Chain Formal Link Operation Place Prefix) → GoodField (roll-Field y)
   field_of (Field-F.Text x) = subst GoodField (sym (fields.rolls-Text x)) (text_good x)

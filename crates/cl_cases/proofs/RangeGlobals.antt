@@ -12,7 +12,6 @@ use Rattle.cl_ast.specs.declared.tree.TypeName.{TypeName}
 use Rattle.cl_ast.specs.declared.tree.TypeName.TheVariants as types
 use Rattle.cl_ast.specs.declared.tree.Expr.{Expr}
 use Rattle.cl_ast.specs.declared.tree.Expr.TheVariants as exprs
-use Rattle.cl_ast.specs.declared.tree.Expr.TheOpen.{Expr-F}
 use Rattle.cl_ast.specs.declared.tree.Place.{Place, out-Place}
 use Rattle.cl_ast.specs.declared.tree.Call.{Call}
 use Rattle.cl_ast.specs.declared.tree.Operation.{Operation}
@@ -25,16 +24,16 @@ use Rattle.cl_ast.specs.declared.statement.Item.{Item}
 use Rattle.cl_ast.specs.declared.statement.Item.TheVariants as items
 use Rattle.cl_model.specs.Numbers.{number, is_within, byte_of}
 use Rattle.cl_listing.specs.Names.{Name}
-use Rattle.cl_listing.proofs.Opens.{expr_rolls}
+use Rattle.cl_ast.proofs.Opens as opens
 use Rattle.cl_meaning.specs.Operators.{literal, zero_of}
 use Rattle.cl_meaning.specs.Variables.{Variable, Scope, is_named, in_scope, nowhere}
-use Rattle.cl_meaning.specs.Outer.{with_sign, constant, first_value, initial_step, initial_number, initial, form_values, size_in, with_globals, outer_from, outer}
+use Rattle.cl_meaning.specs.Outer.{with_sign, constant, first_value, initial_steps, initial_number, initial, form_values, size_in, with_globals, outer_from, outer}
 use Rattle.cl_types.specs.declared.context.Reach.TheVariants as reaches
 use Rattle.cl_types.specs.Numbers.{number_value}
 use Rattle.cl_types.specs.Declarations.{Known}
 use Rattle.cl_types.specs.Statements.{declarator_walked}
 use Rattle.cl_types.specs.Items.{item_walked, known_first}
-use Rattle.cl_typing.proofs.Inductions as inductions
+use Rattle.cl_ast.proofs.Inductions.{ExprGoods, every_expr}
 use Rattle.cl_cases.specs.Initials.{FormIs, DeclaratorsAre, ItemsAre}
 use Rattle.cl_cases.specs.Literals.{constant_fits, expr_fits, form_fits, declarators_fit, item_fits, literals_fit}
 use Rattle.cl_cases.specs.Ranges.{IsNumberWithin, ScopeWithin, GlobalsBeginWithin}
@@ -125,23 +124,19 @@ found_initial name (v ∷ vs) h = by (is_named name v) (found_initial name vs h.
 module _ (scope : Scope) (all : ScopeInitial scope) where
   initial_call : (x : Call) → initial_number scope (exprs.Call x) ≡ pos 0
   unfolding initial_number
-  initial_call x = ap (initial_number scope) (sym (exprs.rolls-Call x))
-      ∙ expr_rolls ℤ (Unit {0}) (Unit {0}) (Unit {0}) (Unit {0}) (Unit {0}) (Unit {0}) ℤ ℤ (initial_step scope) (λ f. tt) (λ c. tt) (λ c. tt) (λ f. tt) (λ l. tt) (λ o. tt) (λ p. number (first_value (in_scope p.name.bytes scope nowhere).values)) (λ x. x.operand) (Expr-F.Call x)
+  initial_call x = opens.expr_call (initial_steps scope) x
 
   initial_operation : (x : Operation) → initial_number scope (exprs.Operation x) ≡ pos 0
   unfolding initial_number
-  initial_operation x = ap (initial_number scope) (sym (exprs.rolls-Operation x))
-      ∙ expr_rolls ℤ (Unit {0}) (Unit {0}) (Unit {0}) (Unit {0}) (Unit {0}) (Unit {0}) ℤ ℤ (initial_step scope) (λ f. tt) (λ c. tt) (λ c. tt) (λ f. tt) (λ l. tt) (λ o. tt) (λ p. number (first_value (in_scope p.name.bytes scope nowhere).values)) (λ x. x.operand) (Expr-F.Operation x)
+  initial_operation x = opens.expr_operation (initial_steps scope) x
 
   initial_chain : (x : Chain) → initial_number scope (exprs.Chain x) ≡ pos 0
   unfolding initial_number
-  initial_chain x = ap (initial_number scope) (sym (exprs.rolls-Chain x))
-      ∙ expr_rolls ℤ (Unit {0}) (Unit {0}) (Unit {0}) (Unit {0}) (Unit {0}) (Unit {0}) ℤ ℤ (initial_step scope) (λ f. tt) (λ c. tt) (λ c. tt) (λ f. tt) (λ l. tt) (λ o. tt) (λ p. number (first_value (in_scope p.name.bytes scope nowhere).values)) (λ x. x.operand) (Expr-F.Chain x)
+  initial_chain x = opens.expr_chain (initial_steps scope) x
 
   initial_not : (x : Prefix) → initial_number scope (exprs.Not x) ≡ pos 0
   unfolding initial_number
-  initial_not x = ap (initial_number scope) (sym (exprs.rolls-Not x))
-      ∙ expr_rolls ℤ (Unit {0}) (Unit {0}) (Unit {0}) (Unit {0}) (Unit {0}) (Unit {0}) ℤ ℤ (initial_step scope) (λ f. tt) (λ c. tt) (λ c. tt) (λ f. tt) (λ l. tt) (λ o. tt) (λ p. number (first_value (in_scope p.name.bytes scope nowhere).values)) (λ x. x.operand) (Expr-F.Not x)
+  initial_not x = opens.expr_not (initial_steps scope) x
 
   abbrev GoodExpr : Expr → Type 0
   GoodExpr x = expr_fits x ≡ true → IsModest (initial_number scope x)
@@ -158,10 +153,11 @@ module _ (scope : Scope) (all : ScopeInitial scope) where
   negate_good : (x : Prefix) → GoodExpr (out-Prefix x).operand → GoodExpr (exprs.Negate x)
   negate_good x g ok = subst IsModest (sym (initial_negate scope x)) (negated_modest (initial_number scope (out-Prefix x).operand) (g (sym (fitting.of_negate x) ∙ ok)))
 
+  goods : ExprGoods GoodExpr (λ x. Unit {0}) (λ x. Unit {0}) (λ x. Unit {0}) (λ x. Unit {0}) (λ x. Unit {0})
+  goods = record { literal = literal_good; named = λ x g. place_good x; called = λ x g. modest_as (exprs.Call x) (pos 0) (initial_call x) (refl, refl); operating = λ x g. modest_as (exprs.Operation x) (pos 0) (initial_operation x) (refl, refl); chained = λ x g. modest_as (exprs.Chain x) (pos 0) (initial_chain x) (refl, refl); negated = negate_good; denied = λ x g. modest_as (exprs.Not x) (pos 0) (initial_not x) (refl, refl); text = λ x. tt; formal = λ x g. tt; plain = λ x g. tt; place = λ x i e. tt; call = λ x ys e. tt; operation = λ x ys e. tt; chain = λ x g ys e. tt }
+
   initial_modest : (x : Expr) → GoodExpr x
-  initial_modest = inductions.every_expr GoodExpr (λ x. Unit {0}) (λ x. Unit {0}) (λ x. Unit {0}) (λ x. Unit {0}) (λ x. Unit {0}) literal_good (λ x g. place_good x)
-      (λ x g. modest_as (exprs.Call x) (pos 0) (initial_call x) (refl, refl)) (λ x g. modest_as (exprs.Operation x) (pos 0) (initial_operation x) (refl, refl)) (λ x g. modest_as (exprs.Chain x) (pos 0) (initial_chain x) (refl, refl))
-      negate_good (λ x g. modest_as (exprs.Not x) (pos 0) (initial_not x) (refl, refl)) (λ x. tt) (λ x g. tt) (λ x g. tt) (λ x i e. tt) (λ x ys e. tt) (λ x ys e. tt) (λ x g ys e. tt)
+  initial_modest = every_expr goods
 
 -- ---- the items of a text
 

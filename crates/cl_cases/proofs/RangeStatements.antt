@@ -42,7 +42,7 @@ use Rattle.cl_meaning.specs.Expressions.{Surroundings, PlaceDoes, value, place_m
 use Rattle.cl_meaning.specs.Statements.{Exit, WentOn, Broke, Continued, Returned, before, in_order, scoped, going_on, declare, behind_body, turn, turns, loop, do_turn, do_turns, do_loop, or_nothing, or_true, form_does, declarator_does, declaration_does, updated, change_does, print_does, returned, does, body_does}
 use Rattle.cl_meaning.specs.Parts.{if_exit, while_exit, do_exit, for_exit}
 use Rattle.cl_meaning.proofs.Sentences as meant
-use Rattle.cl_typing.proofs.Recursions as recursions
+use Rattle.cl_ast.proofs.Inductions.{StmtGoods, every_stmt as inductive_stmt, every_block as inductive_block}
 use Rattle.cl_cases.specs.Literals.{all_fit, fits_if_any, expr_fits, place_fits, expr_fits_if_any, change_fits, form_fits, declarators_fit, arguments_fit, stmt_fits, block_fits}
 use Rattle.cl_cases.specs.Ranges.{IsNumberWithin, AllWithin, StaysWithin, ExitWithin}
 use Rattle.cl_cases.proofs.LiteralRules.{both_fit}
@@ -300,8 +300,11 @@ module _ (around : Surroundings) (stay : CallsStay around) (length_of : Size →
 
   -- ---- every statement
 
+  statement_goods : StmtGoods GoodStmt GoodBlock
+  statement_goods = record { block = block_good; empty = empty_good; variables = variables_good; assign = assign_good; call = call_good; operation = operation_good; print = print_good; break = break_good; continue = continue_good; return = return_good; choice = if_good; while_loop = while_good; do_loop = do_good; for_loop = for_good; statements = statements_good }
+
   pub every_stmt : (x : Stmt) → GoodStmt x
-  every_stmt = recursions.every_stmt GoodStmt GoodBlock block_good empty_good variables_good assign_good call_good operation_good print_good break_good continue_good return_good if_good while_good do_good for_good statements_good
+  every_stmt = inductive_stmt statement_goods
 
   pub every_block : (x : Block) → GoodBlock x
-  every_block = recursions.every_block GoodStmt GoodBlock block_good empty_good variables_good assign_good call_good operation_good print_good break_good continue_good return_good if_good while_good do_good for_good statements_good
+  every_block = inductive_block statement_goods

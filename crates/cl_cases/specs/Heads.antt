@@ -7,7 +7,7 @@ use Rattle.cl_ast.specs.Grammar.{rules, unit}
 use Rattle.cl_ast.specs.Trees.{meaning}
 use Rattle.cl_ast.specs.declared.statement.Stmt.{Stmt}
 use Rattle.cl_ast.specs.declared.statement.Stmt.TheVariants as stmts
-use Rattle.cl_ast.specs.declared.statement.Stmt.TheOpen.{Stmt-F, Block-F, If-F, While-F, Do-F, For-F}
+use Rattle.cl_ast.specs.declared.statement.Stmt.TheOpen.{Stmt-F}
 use Rattle.cl_ast.specs.declared.statement.Block.{Block}
 use Rattle.cl_ast.specs.declared.statement.For.{For, out-For}
 use Rattle.cl_ast.specs.declared.statement.Size.{Size}
@@ -15,7 +15,7 @@ use Rattle.cl_ast.specs.declared.statement.Item.{Item}
 use Rattle.cl_ast.specs.declared.statement.Item.TheVariants as items
 use Rattle.cl_meaning.specs.Expressions.{Surroundings}
 use Rattle.cl_meaning.specs.Statements.{WentOn, or_nothing, does}
-use Rattle.cl_types.specs.Folds.{fold_stmt, fold_block}
+use Rattle.cl_ast.specs.Folds.{StmtSteps, fold_stmt, fold_block}
 use Rattle.cl_cases.specs.Giving.{AlwaysGives}
 
 -- whether a statement is an assignment, a call, an operation or a print, and whether each head of a `for` in it has such alone
@@ -57,27 +57,16 @@ stmt_headed (Stmt-F.Do x) = other_one x
 stmt_headed (Stmt-F.For x) = other_one x
 stmt_headed _ = other_one true
 
-abbrev pub block_headed : Block-F Heading Bool Bool Bool Bool Bool → Bool
-block_headed x = all_headed x.statements
-
-abbrev pub do_headed : Do-F Heading Bool Bool Bool Bool Bool → Bool
-do_headed x = x.body.has_heads
-
-abbrev pub for_headed : For-F Heading Bool Bool Bool Bool Bool → Bool
-for_headed x = is_head_if_any x.first && (is_head_if_any x.step && x.body.has_heads)
-
-abbrev pub if_headed : If-F Heading Bool Bool Bool Bool Bool → Bool
-if_headed x = x.yes.has_heads && headed_if_any x.no
-
-abbrev pub while_headed : While-F Heading Bool Bool Bool Bool Bool → Bool
-while_headed x = x.body.has_heads
+-- of each part of a statement
+abbrev pub headed_steps : StmtSteps Heading Bool Bool Bool Bool Bool
+headed_steps = record { stmt = stmt_headed; block = λ x. all_headed x.statements; do_loop = λ x. x.body.has_heads; for_loop = λ x. is_head_if_any x.first && (is_head_if_any x.step && x.body.has_heads); choice = λ x. x.yes.has_heads && headed_if_any x.no; while_loop = λ x. x.body.has_heads }
 
 unfoldable pub headed : Stmt → Heading
-headed = fold_stmt Heading Bool Bool Bool Bool Bool stmt_headed block_headed do_headed for_headed if_headed while_headed
+headed = fold_stmt headed_steps
 
 -- whether each head of a `for` in a block has simple statements alone
 unfoldable pub is_headed : Block → Bool
-is_headed = fold_block Heading Bool Bool Bool Bool Bool stmt_headed block_headed do_headed for_headed if_headed while_headed
+is_headed = fold_block headed_steps
 
 -- in each function of a text
 abbrev pub are_headed : List Item → Bool

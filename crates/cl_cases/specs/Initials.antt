@@ -31,6 +31,7 @@ use Rattle.cl_types.specs.Items.{define_number, item_walked, items_walked, known
 use Rattle.cl_types.specs.Unit.{faults}
 use Rattle.cl_typing.specs.Values.{IsNumber}
 use Rattle.cl_typing.specs.Laws.{NoFault, known_inside}
+use Rattle.cl_ground.specs.declared.limits.TheConstants.{MOST_SIZE}
 
 -- ---- constants that are known
 
@@ -46,7 +47,7 @@ KnowsConstants scope known = (name : Name) (n : Number) → look_up name known �
 
 -- from 1 to 65,536
 abbrev pub IsSize : ℕ → Type 0
-IsSize n = 1 ≤ n × n ≤ 65536
+IsSize n = 1 ≤ n × n ≤ MOST_SIZE
 
 -- a size in which no fault is noted is one
 abbrev pub SizesAreThere : Type 0
@@ -63,6 +64,7 @@ pub record StatementsKnow (scope : Scope) (known : Known) : Type 0 where
   pub declared : (reach : Reach) (t : TypeName) (d : Declarator) → KnowsConstants scope (declarator_walked reach t d known).known
   pub entered : KnowsConstants scope (enter known)
 
+-- a scope that has the constants known at a place has those known behind and inside what stands there
 abbrev pub KnownEverywhere : Type 0
 KnownEverywhere = (scope : Scope) (known : Known) → KnowsConstants scope known → StatementsKnow scope known
 

@@ -10,7 +10,7 @@ use Rattle.cl_ast.specs.Trees.{meaning}
 use Rattle.cl_ast.specs.declared.tree.Constant.{Constant}
 use Rattle.cl_ast.specs.declared.tree.Constant.TheVariants as constants
 use Rattle.cl_ast.specs.declared.tree.Expr.{Expr}
-use Rattle.cl_ast.specs.declared.tree.Expr.TheOpen.{Expr-F, Place-F, Call-F, Operation-F, Field-F, Formal-F, Chain-F, Link-F, Prefix-F}
+use Rattle.cl_ast.specs.declared.tree.Expr.TheOpen.{Expr-F, Field-F}
 use Rattle.cl_ast.specs.declared.tree.Place.{Place}
 use Rattle.cl_ast.specs.declared.tree.Call.{Call}
 use Rattle.cl_ast.specs.declared.tree.Operation.{Operation}
@@ -21,7 +21,7 @@ use Rattle.cl_ast.specs.declared.tree.Link.{Link}
 use Rattle.cl_ast.specs.declared.tree.Prefix.{Prefix}
 use Rattle.cl_ast.specs.declared.tree.Spanned.{Spanned}
 use Rattle.cl_ast.specs.declared.statement.Stmt.{Stmt}
-use Rattle.cl_ast.specs.declared.statement.Stmt.TheOpen.{Stmt-F, Block-F, If-F, While-F, Do-F, For-F}
+use Rattle.cl_ast.specs.declared.statement.Stmt.TheOpen.{Stmt-F}
 use Rattle.cl_ast.specs.declared.statement.Block.{Block}
 use Rattle.cl_ast.specs.declared.statement.Declarator.{Declarator}
 use Rattle.cl_ast.specs.declared.statement.Form.{Form}
@@ -30,7 +30,7 @@ use Rattle.cl_ast.specs.declared.statement.Change.{Change}
 use Rattle.cl_ast.specs.declared.statement.Change.TheVariants as changes
 use Rattle.cl_ast.specs.declared.statement.Item.{Item}
 use Rattle.cl_ast.specs.declared.statement.Item.TheVariants as items
-use Rattle.cl_listing.specs.Folds.{fold_expr, fold_place, fold_call, fold_operation, fold_field, fold_formal, fold_chain, fold_link, fold_prefix, fold_stmt, fold_block}
+use Rattle.cl_ast.specs.Folds.{ExprSteps, StmtSteps, fold_expr, fold_place, fold_call, fold_operation, fold_field, fold_formal, fold_chain, fold_link, fold_prefix, fold_stmt, fold_block}
 
 -- ---- a literal
 
@@ -68,53 +68,36 @@ literals_field (Field-F.Text t) = true
 literals_field (Field-F.Plain e) = e
 literals_field (Field-F.Formal f) = f
 
-abbrev pub literals_call : Call-F Bool Bool Bool Bool Bool Bool Bool Bool Bool → Bool
-literals_call c = all_fit c.arguments
-
-abbrev pub literals_chain : Chain-F Bool Bool Bool Bool Bool Bool Bool Bool Bool → Bool
-literals_chain c = c.first && all_fit c.others
-
-abbrev pub literals_formal : Formal-F Bool Bool Bool Bool Bool Bool Bool Bool Bool → Bool
-literals_formal f = f.target
-
-abbrev pub literals_link : Link-F Bool Bool Bool Bool Bool Bool Bool Bool Bool → Bool
-literals_link l = l.operand
-
-abbrev pub literals_operation : Operation-F Bool Bool Bool Bool Bool Bool Bool Bool Bool → Bool
-literals_operation o = all_fit o.fields
-
-abbrev pub literals_place : Place-F Bool Bool Bool Bool Bool Bool Bool Bool Bool → Bool
-literals_place p = fits_if_any p.index
-
-abbrev pub literals_prefix : Prefix-F Bool Bool Bool Bool Bool Bool Bool Bool Bool → Bool
-literals_prefix x = x.operand
+-- of each part of an expression, whether its literals fit
+abbrev pub literals_steps : ExprSteps Bool Bool Bool Bool Bool Bool Bool Bool Bool
+literals_steps = record { expr = literals_expr; field = literals_field; call = λ c. all_fit c.arguments; chain = λ c. c.first && all_fit c.others; formal = λ f. f.target; link = λ l. l.operand; operation = λ o. all_fit o.fields; place = λ p. fits_if_any p.index; prefix = λ x. x.operand }
 
 unfoldable pub expr_fits : Expr → Bool
-expr_fits = fold_expr Bool Bool Bool Bool Bool Bool Bool Bool Bool literals_expr literals_field literals_call literals_chain literals_formal literals_link literals_operation literals_place literals_prefix
+expr_fits = fold_expr literals_steps
 
 unfoldable pub place_fits : Place → Bool
-place_fits = fold_place Bool Bool Bool Bool Bool Bool Bool Bool Bool literals_expr literals_field literals_call literals_chain literals_formal literals_link literals_operation literals_place literals_prefix
+place_fits = fold_place literals_steps
 
 unfoldable pub call_fits : Call → Bool
-call_fits = fold_call Bool Bool Bool Bool Bool Bool Bool Bool Bool literals_expr literals_field literals_call literals_chain literals_formal literals_link literals_operation literals_place literals_prefix
+call_fits = fold_call literals_steps
 
 unfoldable pub operation_fits : Operation → Bool
-operation_fits = fold_operation Bool Bool Bool Bool Bool Bool Bool Bool Bool literals_expr literals_field literals_call literals_chain literals_formal literals_link literals_operation literals_place literals_prefix
+operation_fits = fold_operation literals_steps
 
 unfoldable pub field_fits : Field → Bool
-field_fits = fold_field Bool Bool Bool Bool Bool Bool Bool Bool Bool literals_expr literals_field literals_call literals_chain literals_formal literals_link literals_operation literals_place literals_prefix
+field_fits = fold_field literals_steps
 
 unfoldable pub formal_fits : Formal → Bool
-formal_fits = fold_formal Bool Bool Bool Bool Bool Bool Bool Bool Bool literals_expr literals_field literals_call literals_chain literals_formal literals_link literals_operation literals_place literals_prefix
+formal_fits = fold_formal literals_steps
 
 unfoldable pub chain_fits : Chain → Bool
-chain_fits = fold_chain Bool Bool Bool Bool Bool Bool Bool Bool Bool literals_expr literals_field literals_call literals_chain literals_formal literals_link literals_operation literals_place literals_prefix
+chain_fits = fold_chain literals_steps
 
 unfoldable pub link_fits : Link → Bool
-link_fits = fold_link Bool Bool Bool Bool Bool Bool Bool Bool Bool literals_expr literals_field literals_call literals_chain literals_formal literals_link literals_operation literals_place literals_prefix
+link_fits = fold_link literals_steps
 
 unfoldable pub prefix_fits : Prefix → Bool
-prefix_fits = fold_prefix Bool Bool Bool Bool Bool Bool Bool Bool Bool literals_expr literals_field literals_call literals_chain literals_formal literals_link literals_operation literals_place literals_prefix
+prefix_fits = fold_prefix literals_steps
 
 -- ---- those of a statement
 
@@ -160,26 +143,15 @@ literals_stmt (Stmt-F.Break span) = true
 literals_stmt (Stmt-F.Continue span) = true
 literals_stmt (Stmt-F.Return r) = expr_fits_if_any r.value
 
-abbrev pub literals_block : Block-F Bool Bool Bool Bool Bool Bool → Bool
-literals_block b = all_fit b.statements
-
-abbrev pub literals_do : Do-F Bool Bool Bool Bool Bool Bool → Bool
-literals_do d = d.body && expr_fits d.test
-
-abbrev pub literals_for : For-F Bool Bool Bool Bool Bool Bool → Bool
-literals_for f = fits_if_any f.first && (expr_fits_if_any f.test && (fits_if_any f.step && f.body))
-
-abbrev pub literals_if : If-F Bool Bool Bool Bool Bool Bool → Bool
-literals_if x = expr_fits x.test && (x.yes && fits_if_any x.no)
-
-abbrev pub literals_while : While-F Bool Bool Bool Bool Bool Bool → Bool
-literals_while w = expr_fits w.test && w.body
+-- of each part of a statement
+abbrev pub literals_stmt_steps : StmtSteps Bool Bool Bool Bool Bool Bool
+literals_stmt_steps = record { stmt = literals_stmt; block = λ b. all_fit b.statements; do_loop = λ d. d.body && expr_fits d.test; for_loop = λ f. fits_if_any f.first && (expr_fits_if_any f.test && (fits_if_any f.step && f.body)); choice = λ x. expr_fits x.test && (x.yes && fits_if_any x.no); while_loop = λ w. expr_fits w.test && w.body }
 
 unfoldable pub stmt_fits : Stmt → Bool
-stmt_fits = fold_stmt Bool Bool Bool Bool Bool Bool literals_stmt literals_block literals_do literals_for literals_if literals_while
+stmt_fits = fold_stmt literals_stmt_steps
 
 unfoldable pub block_fits : Block → Bool
-block_fits = fold_block Bool Bool Bool Bool Bool Bool literals_stmt literals_block literals_do literals_for literals_if literals_while
+block_fits = fold_block literals_stmt_steps
 
 -- ---- those of a text
 

@@ -39,6 +39,7 @@ module _ (xs : List Item) (depth more : ℕ) where
   abbrev pub tested : Expr → Does Value
   tested x = value (around xs depth more) x
 
+  -- what a statement of the text does
   abbrev pub done : Stmt → Does Exit
   done x = does (around xs depth more) (size_in (outer xs)) x
 
@@ -49,5 +50,6 @@ module _ (xs : List Item) (depth more : ℕ) where
     pub for_ends : (x : For) →
         loop_then last (or_true (around xs depth more) (size_in (outer xs)) (out-For x).test) (done (out-For x).body) (or_nothing (option_map done (out-For x).step)) ≡ for_turns (around xs depth more) (size_in (outer xs)) x
 
+-- in each text, no loop depends on what is done behind the last turn that the meaning has
 abbrev pub EachLoopEnds : Type 0
 EachLoopEnds = (xs : List Item) (depth more : ℕ) (last : Does Exit) → LoopsEnd xs depth more last

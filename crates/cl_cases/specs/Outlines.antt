@@ -51,9 +51,11 @@ pub record Shape : Type 0 where
   pub of : TypeName
   pub size : ℕ
 
+-- what stays of a variable where its values change: its name, its type and their number
 abbrev pub shape : Variable → Shape
 shape v = record { name = v.name; of = v.of; size = length v.values }
 
+-- the same of the variables of a scope, in order
 abbrev pub shapes : Scope → List Shape
 shapes scope = map shape scope
 
@@ -62,6 +64,7 @@ pub record Outline : Type 0 where
   pub globals : List Shape
   pub locals : List (List Shape)
 
+-- the same of all variables, scope by scope
 abbrev pub outline : Variables → Outline
 outline all = record { globals = shapes all.globals; locals = map shapes all.locals }
 

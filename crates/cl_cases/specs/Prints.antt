@@ -14,6 +14,7 @@ use Rattle.cl_types.specs.Statements.{print_notes}
 use Rattle.cl_typing.specs.Laws.{NoFault}
 use Rattle.cl_cases.specs.Giving.{AlwaysGives}
 
+-- bytes and then the rest, where the rest can be printed
 abbrev pub behind : List ℕ → Option (List ℕ) → Option (List ℕ)
 behind front None = None
 behind front (Some rest) = Some (front ++ rest)
@@ -23,6 +24,7 @@ abbrev pub taken : (Value → List ℕ) → List Value → (List Value → Optio
 taken writes [] rest = None
 taken writes (v ∷ vs) rest = behind (writes v) (rest vs)
 
+-- the number of a value in decimal digits, behind a `-` where it is negative
 abbrev pub decimal : Value → List ℕ
 decimal v = signed_decimal (number v)
 

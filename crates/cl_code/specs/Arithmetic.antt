@@ -6,6 +6,7 @@ use Rattle.cl_value.specs.declared.process.Trap.TheVariants.{Overflow, DivideByZ
 use Rattle.cl_model.specs.Doing.{Checked}
 use Rattle.cl_model.specs.Numbers.{is_within}
 
+-- whether it is 0
 abbrev pub is_zero : ℤ → Bool
 is_zero n = int_eq n (pos 0)
 
@@ -31,5 +32,6 @@ remaining bits x y =
     if is_zero y then Err DivideByZero
     else (if is_least_by_minus_one bits x y then Err Overflow else fitting bits (int_rem x y))
 
+-- whether the first isn't greater than the second
 abbrev pub is_at_most : ℤ → ℤ → Bool
 is_at_most x y = not (int_lt y x)

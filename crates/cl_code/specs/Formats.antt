@@ -45,6 +45,7 @@ printed _ _ = []
 
 -- ---- by number
 
+-- the pieces of a text, where there is one
 abbrev pub pieces_or_none : Option (List ℕ) → Option (List Piece)
 pieces_or_none (Some bytes) = pieces bytes
 pieces_or_none None = None

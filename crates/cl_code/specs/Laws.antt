@@ -50,6 +50,7 @@ pub record IsRightJump (p : PlainProgram) (here to : ℕ) : Type 0 where
   pub same : IsTrue (same_function p here to)
   pub tick : to ≤ here → slice_get p.code to ≡ Some Tick
 
+-- each jump of a valid program stays in its function, and meets a `Tick` where it doesn't go forward
 abbrev pub JumpsRight : Type 0
 JumpsRight = (p : PlainProgram) → Valid p → (here to : ℕ) → (slice_get p.code here ≡ Some (Jump to)) ⊎ (slice_get p.code here ≡ Some (JumpZero to)) → IsRightJump p here to
 

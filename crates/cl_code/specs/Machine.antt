@@ -16,6 +16,7 @@ use Rattle.cl_code.specs.Rules.{is_tick, frame_size}
 use Rattle.cl_code.specs.Arithmetic.{is_zero, truth, fitting, divided, remaining, is_at_most}
 use Rattle.cl_code.specs.declared.instr.Instr.{Instr}
 use Rattle.cl_code.specs.declared.instr.Instr.TheVariants.{PushInt, PushLong, LoadLocal, LoadGlobal, StoreLocal, StoreGlobal, LoadLocalAt, LoadGlobalAt, StoreLocalAt, StoreGlobalAt, CheckIndex, Clear, AddInt, SubInt, MulInt, DivInt, RemInt, NegInt, AddLong, SubLong, MulLong, DivLong, RemLong, NegLong, Less, LessEqual, Greater, GreaterEqual, Equal, NotEqual, Not, Narrow, ToChar, Jump, JumpZero, Tick, Call, Return, Pop, Print, Perform}
+use Rattle.cl_ground.specs.declared.limits.TheConstants.{MOST_ACTIVE, MOST_DEPTH}
 
 -- ---- cells and stack
 
@@ -24,6 +25,7 @@ pub record Cells : Type 0 where
   pub globals : List ℤ
   pub frame : List ℤ
 
+-- what is done from the globals and the frame, with their limits
 abbrev pub Does : Type 0 → Type 0
 Does A = doing.Does Cells A
 
@@ -67,6 +69,7 @@ on_two compute (y ∷ x ∷ stack) = do
   pure (On (n ∷ stack))
 on_two compute _ = pure Lost
 
+-- 1 or 0 in place of the two topmost numbers
 abbrev pub tested : (ℤ → ℤ → Bool) → Stack → Does Way
 tested test stack = on_two (λ x y. Ok (truth (test x y))) stack
 
@@ -89,14 +92,17 @@ pub data Where : Type 0 where
   Local : Where
   Global : Where
 
+-- the cells of the frame, or the globals
 abbrev pub cells_at : Where → Cells → List ℤ
 cells_at Local cells = cells.frame
 cells_at Global cells = cells.globals
 
+-- these cells in their place, the others as they were
 abbrev pub with_cells : Where → List ℤ → Cells → Cells
 with_cells Local to cells = record { globals = cells.globals; frame = to }
 with_cells Global to cells = record { globals = to; frame = cells.frame }
 
+-- what was found goes on the stack
 abbrev pub loaded : Option ℤ → Stack → Way
 loaded None stack = Lost
 loaded (Some n) stack = On (n ∷ stack)
@@ -156,7 +162,7 @@ prints (Some all) stack = popped (count_of all) [] stack (λ ns rest. print (pri
 
 -- an `eval` makes a process that is one deeper, of at most 64
 abbrev pub may_ask : Kind → ℕ → Bool
-may_ask kinds.Eval depth = nat_lt depth 64
+may_ask kinds.Eval depth = nat_lt depth MOST_DEPTH
 may_ask _ depth = true
 
 -- the request with this operation, and what is told of it
@@ -287,7 +293,7 @@ module _ (p : PlainProgram) (depth : ℕ) where
   -- a function is entered: at most 256 are active, those that wait and the one that calls among them
   unfoldable pub entered_by : List Frame → ℕ → Option PlainFunction → List ℤ → Stack → Machine → Does Ending
   entered_by frames next None ns stack go = pure None
-  entered_by frames next (Some f) ns stack go = if nat_lt (suc (length frames)) 256 then (do
+  entered_by frames next (Some f) ns stack go = if nat_lt (suc (length frames)) MOST_ACTIVE then (do
     claim f.cells
     outer ← variables
     set_frame (frame_of f ns)

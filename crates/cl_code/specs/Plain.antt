@@ -1,6 +1,6 @@
 -- Programs as plain data, without room. (This project.)
 use Rattle.std.specs.Prelude.{ℕ, List, ℤ, Option, map}
-use Rattle.cl_value.specs.Room.{Room}
+use Rattle.cl_ground.specs.Room.{Room}
 use Rattle.cl_value.specs.declared.value.FieldType.{FieldType}
 use Rattle.cl_sig.specs.Signatures.{PlainSignature}
 use Rattle.cl_sig.specs.Views.{plain_signature}
@@ -9,6 +9,7 @@ use Rattle.cl_code.specs.declared.instr.Instr.{Instr}
 use Rattle.cl_code.specs.declared.function.Function.{Function}
 use Rattle.cl_code.specs.declared.parts.ProgramParts.{ProgramParts}
 
+-- a function: its name, where it begins, its parameters and its result, its cells, its temporaries, and its highest stack
 pub record PlainFunction : Type 0 where
   pub name : List ℕ
   pub entry : ℕ
@@ -18,6 +19,7 @@ pub record PlainFunction : Type 0 where
   pub temporaries : ℕ
   pub stack : ℕ
 
+-- a program: its instructions with the height of the stack at each, its functions, globals, texts, formats and operations, and the sets of these with their classes
 pub record PlainProgram : Type 0 where
   pub code : List Instr
   pub heights : List ℕ
@@ -36,6 +38,7 @@ pub record PlainProgram : Type 0 where
 
 -- ---- from the values of the program
 
+-- a function without the room of its lists
 abbrev pub plain_function : Function → PlainFunction
 plain_function f =
     record {
@@ -48,9 +51,11 @@ plain_function f =
       stack = f.stack;
     }
 
+-- lists without their room
 abbrev pub plain_lists : {T : Type 0} → Room (Room T) → List (List T)
 plain_lists all = map (λ xs. xs.items) all.items
 
+-- a program without the room of its lists
 abbrev pub plain_program : ProgramParts → PlainProgram
 plain_program p =
     record {

@@ -29,10 +29,12 @@ MayGive (Stops t) a = ⊥
 abbrev pub MayLead : PlainProgram → ℕ → Position → Way → Type 0
 MayLead p depth x way = (i : Instr) × (slice_get p.code x.place ≡ Some i) × (s : State Cells) × MayGive (effect p depth i x.stack s) way
 
+-- where a function is entered, if it is there
 abbrev pub entry_of : List Caller → Option PlainFunction → Option Position
 entry_of callers None = None
 entry_of callers (Some f) = Some (record { callers = callers; place = f.entry; stack = [] })
 
+-- where a result goes: to the caller, if there is one
 abbrev pub returned_to : List Caller → ℤ → Option Position
 returned_to [] n = None
 returned_to (caller ∷ callers) n = Some (record { callers = callers; place = caller.place; stack = n ∷ caller.stack })

@@ -36,10 +36,12 @@ ending_as type (Some n) = and_then (result_as type n) (λ v. Ok (Some v))
 
 -- ---- process 0
 
+-- the type of the result of a function, if it is there and gives one
 abbrev pub type_given : Option PlainFunction → Option FieldType
 type_given None = None
 type_given (Some f) = f.gives
 
+-- a list of one value, if there is one
 abbrev pub alone : Option Value → Option (List Value)
 alone None = None
 alone (Some v) = Some (v ∷ [])
@@ -89,6 +91,7 @@ pub data CodeOutcome : Type 0 where
   Goes : (outcome : Outcome) → CodeOutcome
   Wrong : CodeOutcome
 
+-- what code demands, and what it printed until then
 pub record CodeDemand : Type 0 where
   pub output : List ℕ
   pub outcome : CodeOutcome
@@ -116,6 +119,7 @@ abbrev pub or_misfit : CodeOutcome → Outcome
 or_misfit (Goes outcome) = outcome
 or_misfit Wrong = Misfit
 
+-- the same for the machine of a run, where wrong code doesn't fit
 abbrev pub as_demand : CodeDemand → Demand
 as_demand demand = record { output = demand.output; outcome = or_misfit demand.outcome }
 

@@ -28,10 +28,12 @@ is_last p a = (suc a == length p.code) || not (same_function p a (suc a))
 
 -- ---- heights
 
+-- how many numbers the operation of a site takes from the stack
 abbrev pub takes_at : PlainProgram → ℕ → Option PlainSignature → ℕ
 takes_at p site (Some signature) = takes p (places_at p site signature)
 takes_at p site None = 0
 
+-- how many numbers an operation puts on the stack, if it is there
 abbrev pub gives_or_none : Option PlainSignature → ℕ
 gives_or_none (Some signature) = gives signature
 gives_or_none None = 0

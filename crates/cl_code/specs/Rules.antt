@@ -21,6 +21,7 @@ use Rattle.cl_code.specs.Sites.{Place, places_at}
 use Rattle.cl_code.specs.Reach.{same_function, function_at, is_last, pops, height_behind, successors}
 use Rattle.cl_code.specs.declared.instr.Instr.{Instr}
 use Rattle.cl_code.specs.declared.instr.Instr.TheVariants.{LoadLocal, LoadGlobal, StoreLocal, StoreGlobal, LoadLocalAt, LoadGlobalAt, StoreLocalAt, StoreGlobalAt, Clear, Jump, JumpZero, Tick, Call, Return, Print, Perform}
+use Rattle.cl_ground.specs.declared.limits.TheConstants.{MOST_CELLS, MOST_FIELDS, MOST_FUNCTIONS, MOST_SITES}
 
 -- whether there is something, and it passes a test
 abbrev pub has : {A : Type 0} → (A → Bool) → Option A → Bool
@@ -36,25 +37,29 @@ abbrev pub is_of_number : FieldType → Bool
 is_of_number types.Text = false
 is_of_number _ = true
 
+-- whether it is no type, or one of those
 abbrev pub is_of_number_or_none : Option FieldType → Bool
 is_of_number_or_none None = true
 is_of_number_or_none (Some type) = is_of_number type
 
--- ---- rule 1, at 0: 1 to 512 functions, at most 1,024 sites; the beginning is a function without parameters; at most 65,537 global cells
+-- ---- rule 1, at 0: 1 to 512 functions, at most 1,024 sites; the beginning is a function without parameters; at most one global cell more than a process may have
 
+-- whether it has no parameters
 abbrev pub has_no_parameters : PlainFunction → Bool
 has_no_parameters f = length f.parameters == 0
 
+-- whether a program keeps rule 1
 abbrev pub rule_1 : PlainProgram → Bool
 rule_1 p =
-    is_some_up_to 512 p.functions
-    && (nat_le (length p.sites) 1024
+    is_some_up_to MOST_FUNCTIONS p.functions
+    && (nat_le (length p.sites) MOST_SITES
     && (has has_no_parameters (slice_get p.functions p.main)
-    && nat_le (length p.globals) 65537))
+    && nat_le (length p.globals) (MOST_CELLS + 1)))
 
 -- ---- rule 2, at a function: entries begin at 0, rise strictly and lie in the code; parameters and result are of numbers; the parameters are at
--- most the cells, unless these are 65,537; and there are at most 65,537 cells
+-- most the cells, unless these are one more than a process may have; and no function has more than that
 
+-- whether a function begins behind another
 abbrev pub is_after : PlainFunction → PlainFunction → Bool
 is_after f before = nat_lt before.entry f.entry
 
@@ -63,27 +68,31 @@ abbrev pub entry_rises : PlainProgram → ℕ → PlainFunction → Bool
 entry_rises p zero f = f.entry == 0
 entry_rises p (suc number) f = has (is_after f) (slice_get p.functions number)
 
+-- whether a function with this number is as rule 2 says
 abbrev pub function_is_right : PlainProgram → ℕ → PlainFunction → Bool
 function_is_right p number f =
     entry_rises p number f
     && (nat_lt f.entry (length p.code)
     && (list_all is_of_number f.parameters
-    && ((nat_le (length f.parameters) f.cells || f.cells == 65537)
+    && ((nat_le (length f.parameters) f.cells || f.cells == MOST_CELLS + 1)
     && (is_of_number_or_none f.gives
-    && nat_le f.cells 65537))))
+    && nat_le f.cells (MOST_CELLS + 1)))))
 
+-- whether the function with this number keeps rule 2
 abbrev pub rule_2 : PlainProgram → ℕ → Bool
 rule_2 p number = has (function_is_right p number) (slice_get p.functions number)
 
 -- ---- rule 3, at a site: 1 to 16 fields; a literal lies in its type, and its text exists; calls stand in `eval` alone, and the function is there
 -- and gives a type; no formal stands in `eval` or `out`
 
+-- whether a literal lies in its type, and its text exists
 abbrev pub literal_is_right : PlainProgram → Value → Bool
 literal_is_right p (values.Int n) = is_within 31 n
 literal_is_right p (values.Long n) = is_within 63 n
 literal_is_right p (values.Char n) = nat_lt n 256
 literal_is_right p (values.Text n) = nat_lt n (length p.texts)
 
+-- whether the operation makes a process
 abbrev pub is_eval : Kind → Bool
 is_eval kinds.Eval = true
 is_eval _ = false
@@ -94,34 +103,42 @@ may_receive kinds.Eval = false
 may_receive kinds.Out = false
 may_receive _ = true
 
+-- whether a field may stand in an operation of this kind
 abbrev pub mark_is_right : PlainProgram → Kind → Mark → Bool
 mark_is_right p kind (marks.Constant v) = literal_is_right p v
 mark_is_right p kind (marks.Actual type) = true
 mark_is_right p kind (marks.Formal type) = may_receive kind
 
+-- whether a function has a result
 abbrev pub gives_something : PlainFunction → Bool
 gives_something f = is_some f.gives
 
+-- whether a call may stand in an operation of this kind
 abbrev pub call_is_right : PlainProgram → Kind → Option ℕ → Bool
 call_is_right p kind None = true
 call_is_right p kind (Some f) = is_eval kind && has gives_something (slice_get p.functions f)
 
+-- whether a field with its call may stand in an operation of this kind
 abbrev pub field_is_right : PlainProgram → Kind → Place → Bool
 field_is_right p kind place = mark_is_right p kind place.mark && call_is_right p kind place.call
 
+-- whether the operation with this number is as rule 3 says
 abbrev pub site_is_right : PlainProgram → ℕ → PlainSignature → Bool
-site_is_right p number site = is_some_up_to 16 site.fields && list_all (field_is_right p site.kind) (places_at p number site)
+site_is_right p number site = is_some_up_to MOST_FIELDS site.fields && list_all (field_is_right p site.kind) (places_at p number site)
 
+-- whether the operation with this number keeps rule 3
 abbrev pub rule_3 : PlainProgram → ℕ → Bool
 rule_3 p number = has (site_is_right p number) (slice_get p.sites number)
 
 -- ---- rule 4, at a format: each `%` is followed by `d`, `ld`, `c` or `%`
 
+-- whether the format with this number keeps rule 4
 abbrev pub rule_4 : PlainProgram → ℕ → Bool
 rule_4 p number = is_some (pieces_or_none (slice_get p.formats number))
 
 -- ---- rule 5, at 0: as many heights as instructions
 
+-- whether a program keeps rule 5
 abbrev pub rule_5 : PlainProgram → Bool
 rule_5 p = length p.heights == length p.code
 
@@ -132,6 +149,7 @@ rule_5 p = length p.heights == length p.code
 abbrev pub frame_size : PlainFunction → ℕ
 frame_size f = f.cells + f.temporaries
 
+-- whether there is an instruction, and it is `Tick`
 abbrev pub is_tick : Option Instr → Bool
 is_tick (Some Tick) = true
 is_tick _ = false
@@ -140,6 +158,7 @@ is_tick _ = false
 abbrev pub may_jump : PlainProgram → ℕ → ℕ → Bool
 may_jump p here to = nat_lt to (length p.code) && (same_function p here to && (nat_lt here to || is_tick (slice_get p.code to)))
 
+-- whether an instruction of this function reaches only what is there
 abbrev pub instruction_reaches : PlainProgram → ℕ → PlainFunction → Instr → Bool
 instruction_reaches p a f (LoadLocal k) = nat_lt k (frame_size f)
 instruction_reaches p a f (StoreLocal k) = nat_lt k (frame_size f)
@@ -161,6 +180,7 @@ instruction_reaches p a f _ = true
 abbrev pub at_address : PlainProgram → ℕ → (PlainFunction → Instr → Bool) → Bool
 at_address p a test = has (λ f. has (test f) (slice_get p.code a)) (function_at p a)
 
+-- whether the instruction at this address keeps rule 6
 abbrev pub rule_6 : PlainProgram → ℕ → Bool
 rule_6 p a = at_address p a (instruction_reaches p a)
 
@@ -172,31 +192,37 @@ abbrev pub succeeds_with : PlainProgram → PlainFunction → ℕ → ℕ → Bo
 succeeds_with p f height a =
     if nat_lt a (length p.code) then has (λ h. h == height) (slice_get p.heights a) && nat_le height f.stack else true
 
+-- whether an instruction finds what it pops, and leads on with the heights that the program says
 abbrev pub height_is_right : PlainProgram → ℕ → PlainFunction → Instr → ℕ → Bool
 height_is_right p a f i height =
     (not (a == f.entry) || height == 0)
     && (nat_le (pops p i) height
     && list_all (succeeds_with p f (height_behind p i height)) (successors i a))
 
+-- whether the instruction at this address keeps rule 7
 abbrev pub rule_7 : PlainProgram → ℕ → Bool
 rule_7 p a = at_address p a (λ f i. has (height_is_right p a f i) (slice_get p.heights a))
 
 -- ---- rule 8, at an address: the last instruction of a function is `Return` or `Jump`; at a `Return` the height is 1
 
+-- whether an instruction may be the last of its function
 abbrev pub may_end : Instr → Bool
 may_end Return = true
 may_end (Jump to) = true
 may_end _ = false
 
+-- whether a `Return` finds one number
 abbrev pub returns_one : Instr → ℕ → Bool
 returns_one Return height = height == 1
 returns_one _ height = true
 
+-- whether the instruction at this address keeps rule 8
 abbrev pub rule_8 : PlainProgram → ℕ → Bool
 rule_8 p a = at_address p a (λ f i. (may_end i || not (is_last p a)) && has (returns_one i) (slice_get p.heights a))
 
 -- ---- all of them
 
+-- whether each rule holds, at each of its places
 abbrev pub keeps_rules : PlainProgram → Bool
 keeps_rules p =
     rule_1 p

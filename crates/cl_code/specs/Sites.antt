@@ -31,6 +31,7 @@ places [] calls = []
 places (mark ∷ rest) [] = record { mark = mark; call = None } ∷ places rest []
 places (mark ∷ rest) (call ∷ calls) = record { mark = mark; call = call } ∷ places rest calls
 
+-- the list, if there is one
 abbrev pub none_or : {A : Type 0} → Option (List A) → List A
 none_or None = []
 none_or (Some all) = all
@@ -39,6 +40,7 @@ none_or (Some all) = all
 abbrev pub places_at : PlainProgram → ℕ → PlainSignature → List Place
 places_at p site signature = places signature.fields (none_or (slice_get p.calls site))
 
+-- the parameters of a function, if it is there
 abbrev pub parameters_or_none : Option PlainFunction → List FieldType
 parameters_or_none None = []
 parameters_or_none (Some f) = f.parameters
@@ -56,10 +58,12 @@ takes_for p (marks.Formal type) call = 0
 takes_for p (marks.Actual type) None = 1
 takes_for p (marks.Actual type) (Some f) = length (parameters_at p f)
 
+-- how many numbers these fields take from the stack
 abbrev pub takes : PlainProgram → List Place → ℕ
 takes p [] = 0
 takes p (place ∷ rest) = takes_for p place.mark place.call + takes p rest
 
+-- how many formals there are
 abbrev pub formals_in : List Mark → ℕ
 formals_in [] = 0
 formals_in (marks.Formal type ∷ rest) = suc (formals_in rest)
@@ -95,6 +99,7 @@ pub data Field : Type 0 where
   Asks : (type : FieldType) → Field
   Calls : (function : ℕ) (arguments : List Value) (gives : FieldType) → Field
 
+-- the first number, if there is one
 abbrev pub first_or_zero : List ℤ → ℤ
 first_or_zero [] = pos 0
 first_or_zero (n ∷ ns) = n
@@ -131,6 +136,7 @@ parts_of (Holds v ∷ rest) = Ready v ∷ parts_of rest
 parts_of (Asks type ∷ rest) = parts_of rest
 parts_of (Calls f vs type ∷ rest) = Call f vs type ∷ parts_of rest
 
+-- the operation of this kind with these fields
 abbrev pub asked : Kind → List Field → PlainAsk
 asked kinds.Out fields = Out (values_of fields)
 asked kinds.In fields = In (slots_of fields)
@@ -159,6 +165,7 @@ hit (Got t) = pos 1
 hit Done = pos 0
 hit Miss = pos 0
 
+-- what is pushed of the answer of an operation that tries: 1 or 0
 abbrev pub answer_told : Kind → PlainReply → List ℤ
 answer_told kinds.Inp reply = hit reply ∷ []
 answer_told kinds.Rdp reply = hit reply ∷ []

@@ -18,6 +18,7 @@ use Rattle.cl_code.specs.Plain.{PlainFunction, PlainProgram}
 use Rattle.cl_code.specs.Sites.{Place, places_at}
 use Rattle.cl_code.specs.Rules.{has, is_eval}
 use Rattle.cl_code.specs.Valid.{gives_type}
+use Rattle.cl_ground.specs.declared.limits.TheConstants.{MOST_DEPTH}
 
 -- ---- starts
 
@@ -34,6 +35,7 @@ abbrev pub calls_there : PlainProgram → Option ℕ → ℕ → List Value → 
 calls_there p None f arguments gives = false
 calls_there p (Some there) f arguments gives = f == there && has (takes_and_gives arguments gives) (slice_get p.functions f)
 
+-- whether a field of a live tuple may stand at its place
 abbrev pub part_fits : PlainProgram → Place → PlainPart → Bool
 part_fits p place (Ready v) = true
 part_fits p place (Call f arguments gives) = calls_there p place.call f arguments gives
@@ -45,7 +47,7 @@ live_fits p number live site = is_eval site.kind && (is_live_of site.fields live
 -- whether a process may begin so
 abbrev pub start_fits : PlainProgram → PlainStart → Bool
 start_fits p Main = true
-start_fits p (Lives site live depth) = has (live_fits p site live) (slice_get p.sites site) && (nat_le 1 depth && nat_le depth 64)
+start_fits p (Lives site live depth) = has (live_fits p site live) (slice_get p.sites site) && (nat_le 1 depth && nat_le depth MOST_DEPTH)
 
 -- ---- shapes
 
@@ -53,6 +55,7 @@ start_fits p (Lives site live depth) = has (live_fits p site live) (slice_get p.
 abbrev pub no_set : PlainShape
 no_set = record { set = 0; class = classes.Counter; common = record { kind = kinds.Out; fields = marks.Constant (values.Int (pos 0)) ∷ []; place = 0 }; sites = [] }
 
+-- the shapes of so many sets
 abbrev pub shapes_of : PlainProgram → ℕ → List PlainShape
 shapes_of p zero = no_set ∷ []
 shapes_of p count = map (shape p.sites p.sets) (range_with_len 0 count)

@@ -28,6 +28,7 @@ field_is_typed p (marks.Formal type) None = is_of_number type
 field_is_typed p (marks.Actual type) (Some f) = is_of_number type && has (gives_type type) (slice_get p.functions f)
 field_is_typed p mark (Some f) = false
 
+-- whether a field with its call has the type that it is asked for with
 abbrev pub place_is_typed : PlainProgram → Place → Bool
 place_is_typed p place = field_is_typed p place.mark place.call
 
@@ -41,6 +42,7 @@ site_is_typed p number = has (λ (site : PlainSignature). list_all (place_is_typ
 abbrev pub is_short : {A : Type 0} → List A → Bool
 is_short xs = nat_lt (length xs) 4294967296
 
+-- whether the lists of a function are short
 abbrev pub function_is_short : PlainFunction → Bool
 function_is_short f = is_short f.name && is_short f.parameters
 
@@ -69,6 +71,7 @@ lists_are_short p =
 abbrev pub HasClasses : PlainProgram → Type 0
 HasClasses p = (set : ℕ) → set < count_of p.sets → slice_get p.classes set ≡ Some (class (members p.sites p.sets set))
 
+-- a valid program: it keeps the rules, its fields are typed, its sets and classes are those of its sites, and its lists are short
 pub record Valid (p : PlainProgram) : Type 0 where
   pub rules : IsTrue (keeps_rules p)
   pub typed : IsTrue (all_below (length p.sites) (site_is_typed p))

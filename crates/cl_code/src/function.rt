@@ -1,4 +1,5 @@
-use cl_value::{FieldType, Items};
+use cl_ground::Items;
+use cl_value::FieldType;
 
 /// A function of the code. (This project.)
 #[derive(Drop)]

@@ -1,6 +1,6 @@
 use crate::{Function, Instr};
+use cl_ground::Items;
 use cl_sig::{Class, Sets, Signature};
-use cl_value::Items;
 
 /// What a program holds, valid or not. (This project.)
 #[derive(Drop)]

@@ -1,6 +1,6 @@
 use crate::{Function, Instr, ProgramParts};
+use cl_ground::Items;
 use cl_sig::{Class, Sets, Signature};
-use cl_value::Items;
 use std::marker::Model;
 
 /// A valid program (`specs/Valid.antt`): it keeps the rules, its sets are those of its sites, and its

@@ -1,5 +1,6 @@
+use cl_ground::NoMemory;
 use cl_store::TupleStore;
-use cl_value::{NoMemory, Steps, Template, Tuple};
+use cl_value::{Steps, Template, Tuple};
 use std::marker::Model;
 use std::sync::ledger::Ledger;
 
@@ -23,7 +24,7 @@ impl Model for Counter {
 
 impl Counter {
     ghost use Rattle.std.specs.Prelude.{◌≡◌};
-    ghost use Rattle.cl_value.specs.Room.{Room};
+    ghost use Rattle.cl_ground.specs.Room.{Room};
     ghost use Rattle.cl_counter.specs.Counting.{Counting};
 
     /// A counter of this tuple, which is not there yet. It takes no memory.
@@ -98,6 +99,3 @@ impl TupleStore for Counter {
         self.count
     }
 }
-
-#[cfg(test)]
-mod tests;

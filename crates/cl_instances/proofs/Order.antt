@@ -49,10 +49,6 @@ pub data Within : List ℕ → List ℕ → Type 0 where
   skip : {xs ys : List ℕ} → (y : ℕ) → Within xs ys → Within xs (y ∷ ys)
   take : {xs ys : List ℕ} → (x : ℕ) → Within xs ys → Within (x ∷ xs) (x ∷ ys)
 
-none_within : (ys : List ℕ) → Within [] ys
-none_within [] = nothing
-none_within (y ∷ ys) = skip y (none_within ys)
-
 within_append : (a b c d : List ℕ) → Within a b → Within c d → Within (a ++ c) (b ++ d)
 within_append [] [] c d nothing k = k
 within_append (x ∷ a) [] c d h k = elim h [ ]

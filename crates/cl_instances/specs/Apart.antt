@@ -1,6 +1,7 @@
 -- Places of which no two are the same. (This project.)
 use Rattle.std.specs.Prelude.{ℕ, ◌==◌, Bool, true, false, not, ◌&&◌, ◌||◌, List, [], ◌∷◌}
 
+-- whether the place is one of these
 abbrev pub is_among : ℕ → List ℕ → Bool
 is_among place [] = false
 is_among place (p ∷ ps) = (p == place) || is_among place ps

@@ -6,7 +6,7 @@ use Rattle.std.specs.Prelude.{slice_get, option_and_then}
 use Rattle.cl_store.proofs.Same.{both, same_value-is}
 use Rattle.cl_value.specs.Matching.{matches, accepts}
 use Rattle.cl_value.specs.Replay.{first_match, found}
-use Rattle.cl_value.specs.Room.{Room}
+use Rattle.cl_ground.specs.Room.{Room}
 use Rattle.cl_value.specs.declared.value.Value.{Value}
 use Rattle.cl_value.specs.declared.template.Slot.{Slot}
 use Rattle.cl_value.specs.declared.template.Slot.TheVariants as slots

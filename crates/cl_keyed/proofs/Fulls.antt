@@ -3,7 +3,7 @@ use Rattle.std.proofs.Common.{◌≡◌, ℕ, zero, suc, ◌<◌, false, ◌==�
 use Rattle.indexmap.specs.IndexMap.{set_value_at}
 use Rattle.std.specs.Map.{values_of}
 use Rattle.std.specs.Prelude.{slice_get, swap_remove, IfSome}
-use Rattle.cl_value.specs.Room.{Room}
+use Rattle.cl_ground.specs.Room.{Room}
 use Rattle.cl_keyed.proofs.Filters.{last-split}
 use Rattle.cl_keyed.proofs.Swaps.{split-at, pair-at, swap_remove-last, swap_remove-other}
 use Rattle.cl_keyed.specs.Rows.{Row}

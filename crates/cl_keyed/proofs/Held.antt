@@ -4,7 +4,7 @@ use Rattle.std.proofs.lemmas.Bool.{cases_Bool}
 use Rattle.std.proofs.lemmas.List.{append-nil, map-append}
 use Rattle.std.proofs.lemmas.List.Elements.{filter-append}
 use Rattle.cl_value.specs.Replay.{first_match, found, without_first}
-use Rattle.cl_value.specs.Room.{Room}
+use Rattle.cl_ground.specs.Room.{Room}
 use Rattle.cl_value.specs.declared.template.Slot.{Slot}
 use Rattle.cl_keyed.proofs.Filters.{filter-yes, filter-no, filter-swap, filter-shorter, filter-but_one, filter-split, filter-map, empty-list}
 use Rattle.cl_keyed.proofs.Finds.{found-filter, first_match-split, without-end}

@@ -1,11 +1,11 @@
 -- What the fields of a keyed store still mean.
-use Rattle.std.proofs.Common.{◌≡◌, ℕ, ◌+◌, ◌-◌, ◌<◌, ◌≤◌, ◌^◌, List, [], ◌∷◌, ◌++◌, length, Option, Some, None, refl, sym, ◌∙◌, ap, arith, length-append}
+use Rattle.std.proofs.Common.{◌≡◌, ℕ, ◌+◌, ◌-◌, ◌<◌, ◌≤◌, ◌^◌, List, [], ◌∷◌, ◌++◌, length, Option, Some, None, refl, sym, ◌∙◌, ap, arith}
 use Rattle.std.proofs.lemmas.List.Edits.{length-remove}
 use Rattle.cl_store.proofs.Matches.{first_match-within, without_first-at}
 use Rattle.cl_value.specs.Replay.{first_match, found, without_first}
 use Rattle.cl_value.specs.declared.template.Slot.{Slot}
 use Rattle.cl_keyed.proofs.Asked.{found-nowhere}
-use Rattle.cl_value.specs.Room.{Room}
+use Rattle.cl_ground.specs.Room.{Room}
 use Rattle.cl_value.specs.declared.value.Value.{Value}
 use Rattle.cl_keyed.specs.Rows.{Row, content_of, Holds}
 use Rattle.cl_keyed.specs.Tables.{Lines, Full, RoomFor}
@@ -37,22 +37,6 @@ pub stands-ready : (field added count : ℕ) (table : Lines) (fresh : Room Row) 
     → Stands field added count table fresh (Some (record { key = k; place = place }))
 stands-ready field added count table fresh ready k place stands below room =
     record { holds = stands.holds; full = stands.full; counted = stands.counted; few = stands.few; empty = stands.empty; room = (below, room) }
-
--- after a tuple was added
-pub stands-added : (field added count : ℕ) (table new : Lines) (fresh next : Room Row) (ready : Option Ready) (t : List Value) → Stands field added count table fresh ready
-    → content_of (added + 1) new.lines ≡ content_of added table.lines ++ t ∷ [] → Holds field (added + 1) new.lines → (Full table.lines → Full new.lines) → next.items ≡ []
-    → Stands field (added + 1) (count + 1) new next None
-stands-added field added count table new fresh next ready t stands content holds full items =
-    let few : count ≤ added = stands.few in
-    let more : length (content_of (added + 1) new.lines) ≡ length (content_of added table.lines) + 1 = ap length content ∙ length-append (content_of added table.lines) (t ∷ []) in
-    record {
-      holds = holds;
-      full = full stands.full;
-      counted = ap (λ c. c + 1) stands.counted ∙ sym more;
-      few = omega arith;
-      empty = items;
-      room = tt;
-    }
 
 -- where something is found, one tuple less is left without the first match
 pub fewer : (ts : List (List Value)) (m : List Slot) (t : List Value) → found ts m ≡ Some t → length (without_first ts m) + 1 ≡ length ts

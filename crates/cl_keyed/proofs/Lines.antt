@@ -2,7 +2,7 @@
 use Rattle.std.proofs.Common.{◌≡◌, ℕ, List, [], ◌∷◌, ◌++◌, filter, refl, sym, ◌∙◌, ap, append_assoc}
 use Rattle.std.proofs.lemmas.List.{append-nil}
 use Rattle.std.proofs.lemmas.List.Elements.{filter-append}
-use Rattle.cl_value.specs.Room.{Room}
+use Rattle.cl_ground.specs.Room.{Room}
 use Rattle.cl_keyed.proofs.Filters.{filter-apart}
 use Rattle.cl_keyed.proofs.Numbers.{filter-by_number, by_number-nil}
 use Rattle.cl_keyed.proofs.Keys.{has_key-one}

@@ -6,7 +6,7 @@ use Rattle.std.specs.List.{IsDistinct, AllByRecursion}
 use Rattle.std.specs.Map.{keys_of, values_of, lookup}
 use Rattle.std.proofs.lemmas.Bool.{cases_Bool}
 use Rattle.indexmap.specs.IndexMap.{set_value_at}
-use Rattle.cl_value.specs.Room.{Room}
+use Rattle.cl_ground.specs.Room.{Room}
 use Rattle.cl_keyed.proofs.Keys.{same_key-is}
 use Rattle.cl_keyed.specs.Keys.{same_key}
 use Rattle.cl_keyed.specs.Rows.{Row, tuple_of}
@@ -37,10 +37,6 @@ set-split (x ∷ xs) ys k line w = ap (λ zs. x ∷ zs) (set-split xs ys k line 
 pub items-split : (xs ys : List (Key × Room Row)) (k : Key) (line : Room Row) → items_at (xs ++ (k, line) ∷ ys) (length xs) ≡ line.items
 items-split [] ys k line = refl
 items-split (x ∷ xs) ys k line = items-split xs ys k line
-
-pub spare-split : (xs ys : List (Key × Room Row)) (k : Key) (line : Room Row) → spare_at (xs ++ (k, line) ∷ ys) (length xs) ≡ line.spare
-spare-split [] ys k line = refl
-spare-split (x ∷ xs) ys k line = spare-split xs ys k line
 
 -- the tuples of dated rows
 pub tuples-of_rows : (ds : List Dated) → map tuple_of (map row_of ds) ≡ map fields_of ds

@@ -2,7 +2,7 @@
 use Rattle.std.proofs.Common.{◌≡◌, ℕ, zero, suc, ◌+◌, ◌<◌, ◌≤◌, true, List, [], ◌∷◌, ◌++◌, length, map, filter, remove, Option, Some, None, refl, sym, ◌∙◌, ap, arith, subst}
 use Rattle.indexmap.specs.IndexMap.{set_value_at}
 use Rattle.cl_value.specs.Replay.{first_match, without_first}
-use Rattle.cl_value.specs.Room.{Room}
+use Rattle.cl_ground.specs.Room.{Room}
 use Rattle.cl_value.specs.declared.template.Slot.{Slot}
 use Rattle.cl_keyed.proofs.Held.{added, begun, taken}
 use Rattle.cl_keyed.proofs.Places.{set-split, items-split}

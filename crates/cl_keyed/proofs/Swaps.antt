@@ -5,7 +5,7 @@ use Rattle.std.proofs.lemmas.List.Elements.{filter-append}
 use Rattle.std.proofs.lemmas.Bool.Decides.{Decides-eqb}
 use Rattle.std.specs.Map.{values_of}
 use Rattle.std.specs.Prelude.{slice_get, swap_remove, IfSome, ◌==◌, true}
-use Rattle.cl_value.specs.Room.{Room}
+use Rattle.cl_ground.specs.Room.{Room}
 use Rattle.cl_keyed.proofs.Filters.{append-swap, last-split, empty-list}
 use Rattle.cl_keyed.proofs.Lines.{all_rows-append, all_rows-at, each-append, each-left, each-right}
 use Rattle.cl_keyed.proofs.Numbers.{by_number-agree}

@@ -4,6 +4,7 @@ use Rattle.cl_value.specs.declared.value.Value.{Value}
 use Rattle.cl_keyed.specs.Rows.{Row}
 use Rattle.cl_keyed.specs.declared.line.Dated.{Dated}
 
+-- a row as the table keeps it, as plain data
 abbrev pub row_of : Dated → Row
 row_of d = record { number = d.number; tuple = d.tuple.items }
 

@@ -1,6 +1,6 @@
 -- What contracts see of a keyed store, and what its fields mean. (This project.)
 use Rattle.std.specs.Prelude.{◌≡◌, ℕ, Bool, false, ◌^◌, ◌-◌, ◌<◌, ◌≤◌, List, [], length, Option, Some, None}
-use Rattle.cl_value.specs.Room.{Room}
+use Rattle.cl_ground.specs.Room.{Room}
 use Rattle.cl_value.specs.declared.value.Value.{Value}
 use Rattle.cl_keyed.specs.Keys.{is_key}
 use Rattle.cl_keyed.specs.Rows.{Row, content_of, Holds}

@@ -1,6 +1,6 @@
 -- The tuples of a keyed store: a list for each key. (This project.)
 use Rattle.std.specs.Prelude.{◌≡◌, ℕ, zero, suc, Bool, ◌==◌, ◌≤◌, List, [], ◌∷◌, ◌++◌, length, map, filter}
-use Rattle.cl_value.specs.Room.{Room}
+use Rattle.cl_ground.specs.Room.{Room}
 use Rattle.cl_value.specs.declared.value.Value.{Value}
 use Rattle.cl_keyed.specs.Keys.{has_key}
 use Rattle.cl_keyed.specs.declared.key.Key.{Key}

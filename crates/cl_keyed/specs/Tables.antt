@@ -1,7 +1,7 @@
 -- What contracts see of the table of a keyed store. (This project.)
 use Rattle.std.specs.Prelude.{◌≡◌, ℕ, zero, suc, ◌<◌, false, List, [], ◌∷◌, ◌++◌, length, map, filter, Option, Some, None}
 use Rattle.cl_value.specs.Replay.{first_match}
-use Rattle.cl_value.specs.Room.{Room}
+use Rattle.cl_ground.specs.Room.{Room}
 use Rattle.cl_value.specs.declared.template.Slot.{Slot}
 use Rattle.cl_value.specs.declared.value.Value.{Value}
 use Rattle.cl_keyed.specs.Keys.{same_key, has_key, asked_at}

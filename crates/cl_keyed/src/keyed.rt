@@ -2,8 +2,9 @@ use crate::key::Key;
 use crate::line::Line;
 use crate::room::{put, room_for};
 use crate::table::Table;
+use cl_ground::NoMemory;
 use cl_store::{NextTuple, TupleStore};
-use cl_value::{NoMemory, Steps, Template, Tuple};
+use cl_value::{Steps, Template, Tuple};
 use std::alloc::Global;
 use std::marker::Model;
 use std::sync::ledger::Ledger;
@@ -147,6 +148,3 @@ impl TupleStore for Keyed {
         self.count
     }
 }
-
-#[cfg(test)]
-mod tests;

@@ -1,4 +1,5 @@
-use cl_value::{NoMemory, Steps, Template, Tuple};
+use cl_ground::NoMemory;
+use cl_value::{Steps, Template, Tuple};
 use std::alloc::{AllocError, Global};
 use std::collections::VecDeque;
 use std::marker::Model;
@@ -22,7 +23,7 @@ pub struct Line {
 impl Model for Line {
     ghost use Rattle.std.specs.Prelude.{◌-◌, map};
     ghost use Rattle.std.specs.VecDeque.{deque_len, deque_capacity};
-    ghost use Rattle.cl_value.specs.Room.{Room};
+    ghost use Rattle.cl_ground.specs.Room.{Room};
     ghost use Rattle.cl_keyed.specs.Rows.{Row};
     ghost use Rattle.cl_keyed.specs.DatedRows.{row_of};
 
@@ -33,9 +34,10 @@ impl Model for Line {
 
 impl Line {
     ghost use Rattle.std.specs.Prelude.{◌≡◌, ◌+◌, ◌-◌, ◌<◌, ◌≤◌, [], ◌∷◌, ◌++◌, ◌==◌, length, map, remove, IsOk, IsNone, OnOk, OnSome, Some};
-    ghost use Rattle.cl_value.specs.Room.{Room, HasRoom, capacity_of};
+    ghost use Rattle.cl_ground.specs.Room.{Room, HasRoom, capacity_of};
     ghost use Rattle.cl_value.specs.Replay.{first_match, found};
     ghost use Rattle.cl_keyed.specs.Rows.{Row, tuple_of};
+    ghost use Rattle.cl_ground.specs.declared.limits.TheConstants.{MOST_FIELDS};
 
     /// No tuple, and no room.
     pub fn new(alloc: Global) -> Line
@@ -75,7 +77,7 @@ impl Line {
         into: &mut Tuple,
         steps: &mut Steps<L>,
     ) -> Option<usize>
-        requires { HasRoom 16 into.old }
+        requires { HasRoom MOST_FIELDS into.old }
         ensures place { result ≡ first_match (map tuple_of self.now.items) template.now.items }
         ensures read { OnSome result (found (map tuple_of self.now.items) template.now.items ≡ Some into.new.items) }
         ensures unchanged { IsNone result → into.new ≡ into.old }

@@ -7,7 +7,8 @@ ghost use Rattle.cl_keyed.specs.declared.key.Key.{Key};
 use crate::key::Key;
 use crate::line::Line;
 use crate::table::Table;
-use cl_value::{NoMemory, Tuple};
+use cl_ground::NoMemory;
+use cl_value::Tuple;
 use std::alloc::Global;
 use std::mem::replace;
 

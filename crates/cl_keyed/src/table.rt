@@ -1,6 +1,7 @@
 use crate::key::Key;
 use crate::line::Line;
-use cl_value::{NoMemory, Steps, Template, Tuple};
+use cl_ground::NoMemory;
+use cl_value::{Steps, Template, Tuple};
 use indexmap::IndexMap;
 use std::alloc::{AllocError, Global};
 use std::marker::Model;
@@ -32,13 +33,14 @@ impl Model for Table {
 
 impl Table {
     ghost use Rattle.std.specs.Prelude.{◌≡◌, ◌+◌, ◌<◌, ◌≤◌, ℕ, List, [], ◌∷◌, ◌++◌, length, map, remove, IsNone, OnOk, OnSome, IfSome, IfNone, IsTrue, None, Some};
-    ghost use Rattle.cl_value.specs.Room.{Room, HasRoom, capacity_of};
+    ghost use Rattle.cl_ground.specs.Room.{Room, HasRoom, capacity_of};
     ghost use Rattle.cl_value.specs.Replay.{first_match, found, without_first};
     ghost use Rattle.cl_value.specs.declared.template.Slot.{Slot};
     ghost use Rattle.cl_keyed.specs.Keys.{asked_at, has_actual};
     ghost use Rattle.cl_keyed.specs.Rows.{Row, tuple_of, content_of, Holds};
     ghost use Rattle.indexmap.specs.IndexMap.{set_value_at};
     ghost use Rattle.cl_keyed.specs.Tables.{Lines, tuples_with, StandsAt, Others, IsFirst, Full, FullBut, items_at, spare_at};
+    ghost use Rattle.cl_ground.specs.declared.limits.TheConstants.{MOST_FIELDS};
 
     /// No list.
     pub fn new(alloc: Global) -> Table
@@ -66,7 +68,7 @@ impl Table {
         steps: &mut Steps<L>,
     ) -> Option<usize>
         requires place { place < length self.now.lines }
-        requires room { HasRoom 16 into.old }
+        requires room { HasRoom MOST_FIELDS into.old }
         ensures first { result ≡ first_match (map tuple_of (items_at self.now.lines place)) template.now.items }
         ensures read { OnSome result (found (map tuple_of (items_at self.now.lines place)) template.now.items ≡ Some into.new.items) }
         ensures unchanged { IsNone result → into.new ≡ into.old }
@@ -87,7 +89,7 @@ impl Table {
         steps: &mut Steps<L>,
     ) -> Option<Place>
         requires actual { IsTrue (has_actual field template.now.items) }
-        requires room { HasRoom 16 into.old }
+        requires room { HasRoom MOST_FIELDS into.old }
         ensures found { IfSome result (λ p. (n : ℕ) → Holds field n self.now.lines → found (content_of n self.now.lines) template.now.items ≡ Some into.new.items) }
         ensures none { IfNone result ((n : ℕ) → Holds field n self.now.lines → found (content_of n self.now.lines) template.now.items ≡ None) }
         ensures place { IfSome result (λ p. IsFirst field template.now.items p.line p.row self.now.lines) }

@@ -13,7 +13,7 @@ use Rattle.cl_ast.specs.declared.tree.Chain.{roll-Chain}
 use Rattle.cl_ast.specs.declared.statement.Stmt.{Stmt}
 use Rattle.cl_ast.specs.declared.statement.Change.TheVariants as changes
 use Rattle.cl_model.specs.Demand.{Demand, Wants, Finishes, Traps, Misfit}
-use Rattle.cl_listing.specs.Folds.{folds}
+use Rattle.cl_ast.specs.Folds.{folds}
 use Rattle.cl_model.specs.Doing.{then_do, ◌>>=◌, ◌>>◌, pure, trap, ask, variables, set_variables, print, tick, ticks_left, claim, release, checked, each_onto, through}
 use Rattle.cl_meaning.specs.Operations.{variable, place, value_at, store, formal, fill, received, requested, evaluated}
 use Rattle.cl_meaning.specs.Expressions.{truth_of, joined, called, live_part, expr_does, field_does, call_does, chain_does, link_does, formal_does, place_does, prefix_does, operation_by, operation_does, expr_meant, value, place_meant, call, operation}

@@ -1,22 +1,18 @@
 -- Each statement goes as far with more ticks, where calls do: by induction on the tree. A loop goes by the ticks that are left.
-use Rattle.std.proofs.Common.{◌≡◌, ◌∙◌, ap, sym, subst, ℕ, zero, suc, ◌+◌, ◌≤◌, List, [], ◌∷◌, map, replicate, Option, Some, None, arith}
-use Rattle.std.specs.Prelude.{pos}
+use Rattle.std.proofs.Common.{◌≡◌, sym, subst, ℕ, zero, suc, ◌+◌, ◌≤◌, List, [], ◌∷◌, map, replicate, Option, Some, None, arith}
+use Rattle.std.specs.Prelude.{pos, option_map}
 use Rattle.cl_value.specs.declared.value.Value.{Value}
 use Rattle.cl_value.specs.declared.value.Value.TheVariants.{Int}
-use Rattle.cl_ast.specs.declared.span.Span.{Span}
 use Rattle.cl_ast.specs.declared.tree.TypeName.{TypeName}
 use Rattle.cl_ast.specs.declared.tree.Expr.{Expr}
 use Rattle.cl_ast.specs.declared.tree.Operator.{Operator}
 use Rattle.cl_ast.specs.declared.tree.Operator.TheVariants as operators
 use Rattle.cl_ast.specs.declared.statement.Stmt.{Stmt}
-use Rattle.cl_ast.specs.declared.statement.Block.{Block}
-use Rattle.cl_ast.specs.declared.statement.Do.{Do}
-use Rattle.cl_ast.specs.declared.statement.For.{For}
-use Rattle.cl_ast.specs.declared.statement.If.{If}
-use Rattle.cl_ast.specs.declared.statement.While.{While}
-use Rattle.cl_ast.specs.declared.statement.Stmt.TheFolds as s
-use Rattle.cl_ast.specs.declared.statement.Stmt.TheOpen.{Stmt-F, Block-F, Do-F, For-F, If-F, While-F}
-use Rattle.cl_ast.specs.declared.statement.Stmt.TheViews.{roll-Stmt, roll-Block, roll-Do, roll-For, roll-If, roll-While, out-roll-Block, out-roll-Do, out-roll-For, out-roll-If, out-roll-While}
+use Rattle.cl_ast.specs.declared.statement.Block.{Block, out-Block}
+use Rattle.cl_ast.specs.declared.statement.Do.{out-Do}
+use Rattle.cl_ast.specs.declared.statement.For.{For, out-For}
+use Rattle.cl_ast.specs.declared.statement.If.{If, out-If}
+use Rattle.cl_ast.specs.declared.statement.While.{out-While}
 use Rattle.cl_ast.specs.declared.statement.Variables.{Variables as Declaration}
 use Rattle.cl_ast.specs.declared.statement.Declarator.{Declarator}
 use Rattle.cl_ast.specs.declared.statement.Form.{Form}
@@ -27,17 +23,19 @@ use Rattle.cl_ast.specs.declared.statement.Change.TheVariants as changes
 use Rattle.cl_ast.specs.declared.statement.Print.{Print}
 use Rattle.cl_ast.specs.declared.tree.Spanned.{Spanned}
 use Rattle.cl_listing.specs.Names.{Name}
-use Rattle.cl_listing.proofs.Opens.{gd, gf, gi, gw, stmt_rolls, block_opens, do_opens, for_opens, if_opens, while_opens}
 use Rattle.cl_model.specs.Numbers.{is_zero}
 use Rattle.cl_meaning.specs.Operators.{converted, zero_of, operated}
 use Rattle.cl_meaning.specs.Variables.{declared, entered, left}
 use Rattle.cl_meaning.specs.Printing.{filled}
 use Rattle.cl_meaning.specs.Operations.{Does}
 use Rattle.cl_meaning.specs.Expressions.{Surroundings, PlaceDoes, value}
-use Rattle.cl_meaning.specs.Statements.{Exit, WentOn, Broke, Continued, Returned, before, in_order, scoped, going_on, declare, behind_body, turn, turns, loop, do_turn, do_turns, do_loop, or_nothing, or_true, form_does, declarator_does, declaration_does, updated, change_does, print_does, returned, stmt_does, block_does, do_does, for_does, if_does, while_does, does, body_does}
+use Rattle.cl_meaning.specs.Statements.{Exit, WentOn, Broke, Continued, Returned, before, in_order, scoped, going_on, declare, behind_body, turn, turns, loop, do_turn, do_turns, do_loop, or_nothing, or_true, form_does, declarator_does, declaration_does, updated, change_does, print_does, returned, does, body_does}
 use Rattle.cl_limits.proofs.Ahead.{Alike, Goes, GoEach, alike_then, alike_also, alike_if, alike_tick, out_of_ticks, goes_then, goes_also, goes_pure, goes_checked, goes_if, goes_variables, goes_set_variables, goes_print, goes_by_ticks, goes_each}
 use Rattle.cl_limits.proofs.Operations.{MayGo, goes_value_at, goes_store}
 use Rattle.cl_limits.proofs.Expressions.{CallsGo, goes_value, goes_at, goes_call, goes_operated}
+use Rattle.cl_ast.specs.declared.statement.Stmt.TheVariants as stmts
+use Rattle.cl_ast.proofs.Inductions.{StmtGoods, every_stmt, every_block}
+use Rattle.cl_meaning.proofs.Sentences as meant
 
 module _ (extra : ℕ) where
   -- ---- one after the other
@@ -173,213 +171,63 @@ module _ (extra : ℕ) where
     goes_returned None = goes_pure extra (Returned None)
     goes_returned (Some x) = goes_then extra _ _ (goes x) (λ v. goes_pure extra (Returned (Some v)))
 
-    -- ---- a layer of the tree, each part with what is known of it
+    -- ---- what is known of each part of a tree
 
-    abbrev do_meant : Do → Does Exit
-    do_meant = gd (Does Exit) (Does Exit) (Does Exit) (Does Exit) (Does Exit) (Does Exit) (stmt_does around length_of) (block_does around length_of) (do_does around length_of) (for_does around length_of) (if_does around length_of) (while_does around length_of)
+    abbrev GoodStmt : Stmt → Type 0
+    GoodStmt x = Goes extra (does around length_of x)
 
-    abbrev for_meant : For → Does Exit
-    for_meant = gf (Does Exit) (Does Exit) (Does Exit) (Does Exit) (Does Exit) (Does Exit) (stmt_does around length_of) (block_does around length_of) (do_does around length_of) (for_does around length_of) (if_does around length_of) (while_does around length_of)
-
-    abbrev if_meant : If → Does Exit
-    if_meant = gi (Does Exit) (Does Exit) (Does Exit) (Does Exit) (Does Exit) (Does Exit) (stmt_does around length_of) (block_does around length_of) (do_does around length_of) (for_does around length_of) (if_does around length_of) (while_does around length_of)
-
-    abbrev while_meant : While → Does Exit
-    while_meant = gw (Does Exit) (Does Exit) (Does Exit) (Does Exit) (Does Exit) (Does Exit) (stmt_does around length_of) (block_does around length_of) (do_does around length_of) (for_does around length_of) (if_does around length_of) (while_does around length_of)
-
-    abbrev StmtHolds : Stmt → Type 0
-    StmtHolds x = Goes extra (does around length_of x)
-
-    abbrev BlockHolds : Block → Type 0
-    BlockHolds x = Goes extra (body_does around length_of x)
-
-    abbrev DoHolds : Do → Type 0
-    DoHolds x = Goes extra (do_meant x)
-
-    abbrev ForHolds : For → Type 0
-    ForHolds x = Goes extra (for_meant x)
-
-    abbrev IfHolds : If → Type 0
-    IfHolds x = Goes extra (if_meant x)
-
-    abbrev WhileHolds : While → Type 0
-    WhileHolds x = Goes extra (while_meant x)
-
-    -- a part of a layer, with what holds of it
+    abbrev GoodBlock : Block → Type 0
+    GoodBlock x = Goes extra (body_does around length_of x)
 
     abbrev SuchStmt : Type 0
-    SuchStmt = (x : Stmt) × StmtHolds x
+    SuchStmt = (x : Stmt) × GoodStmt x
 
-    abbrev SuchBlock : Type 0
-    SuchBlock = (x : Block) × BlockHolds x
+    goes_as : (part other : Does Exit) → part ≡ other → Goes extra other → Goes extra part
+    goes_as part other is h = subst (λ (d : Does Exit). Goes extra d) (sym is) h
 
-    abbrev SuchDo : Type 0
-    SuchDo = (x : Do) × DoHolds x
+    may_go : (x : Option SuchStmt) → MayGo extra (option_map (does around length_of) (option_map (λ z. z.0) x))
+    may_go None = tt
+    may_go (Some x) = x.1
 
-    abbrev SuchFor : Type 0
-    SuchFor = (x : For) × ForHolds x
-
-    abbrev SuchIf : Type 0
-    SuchIf = (x : If) × IfHolds x
-
-    abbrev SuchWhile : Type 0
-    SuchWhile = (x : While) × WhileHolds x
-
-    -- a layer of such parts; the layer without what holds of them; and the layer of what they do
-
-    abbrev StmtLayer : Type 0
-    StmtLayer = Stmt-F SuchStmt SuchBlock SuchDo SuchFor SuchIf SuchWhile
-
-    abbrev BlockLayer : Type 0
-    BlockLayer = Block-F SuchStmt SuchBlock SuchDo SuchFor SuchIf SuchWhile
-
-    abbrev DoLayer : Type 0
-    DoLayer = Do-F SuchStmt SuchBlock SuchDo SuchFor SuchIf SuchWhile
-
-    abbrev ForLayer : Type 0
-    ForLayer = For-F SuchStmt SuchBlock SuchDo SuchFor SuchIf SuchWhile
-
-    abbrev IfLayer : Type 0
-    IfLayer = If-F SuchStmt SuchBlock SuchDo SuchFor SuchIf SuchWhile
-
-    abbrev WhileLayer : Type 0
-    WhileLayer = While-F SuchStmt SuchBlock SuchDo SuchFor SuchIf SuchWhile
-
-    abbrev plain-Stmt : StmtLayer → Stmt-F Stmt Block Do For If While
-    plain-Stmt y = s.map-Stmt SuchStmt SuchBlock SuchDo SuchFor SuchIf SuchWhile Stmt Block Do For If While (λ z. z.0) (λ z. z.0) (λ z. z.0) (λ z. z.0) (λ z. z.0) (λ z. z.0) y
-
-    abbrev plain-Block : BlockLayer → Block-F Stmt Block Do For If While
-    plain-Block y = s.map-Block SuchStmt SuchBlock SuchDo SuchFor SuchIf SuchWhile Stmt Block Do For If While (λ z. z.0) (λ z. z.0) (λ z. z.0) (λ z. z.0) (λ z. z.0) (λ z. z.0) y
-
-    abbrev plain-Do : DoLayer → Do-F Stmt Block Do For If While
-    plain-Do y = s.map-Do SuchStmt SuchBlock SuchDo SuchFor SuchIf SuchWhile Stmt Block Do For If While (λ z. z.0) (λ z. z.0) (λ z. z.0) (λ z. z.0) (λ z. z.0) (λ z. z.0) y
-
-    abbrev plain-For : ForLayer → For-F Stmt Block Do For If While
-    plain-For y = s.map-For SuchStmt SuchBlock SuchDo SuchFor SuchIf SuchWhile Stmt Block Do For If While (λ z. z.0) (λ z. z.0) (λ z. z.0) (λ z. z.0) (λ z. z.0) (λ z. z.0) y
-
-    abbrev plain-If : IfLayer → If-F Stmt Block Do For If While
-    plain-If y = s.map-If SuchStmt SuchBlock SuchDo SuchFor SuchIf SuchWhile Stmt Block Do For If While (λ z. z.0) (λ z. z.0) (λ z. z.0) (λ z. z.0) (λ z. z.0) (λ z. z.0) y
-
-    abbrev plain-While : WhileLayer → While-F Stmt Block Do For If While
-    plain-While y = s.map-While SuchStmt SuchBlock SuchDo SuchFor SuchIf SuchWhile Stmt Block Do For If While (λ z. z.0) (λ z. z.0) (λ z. z.0) (λ z. z.0) (λ z. z.0) (λ z. z.0) y
-
-    abbrev meant-Stmt : Stmt-F Stmt Block Do For If While → Stmt-F (Does Exit) (Does Exit) (Does Exit) (Does Exit) (Does Exit) (Does Exit)
-    meant-Stmt y = s.map-Stmt Stmt Block Do For If While (Does Exit) (Does Exit) (Does Exit) (Does Exit) (Does Exit) (Does Exit) (does around length_of) (body_does around length_of) do_meant for_meant if_meant while_meant y
-
-    abbrev meant-Block : Block-F Stmt Block Do For If While → Block-F (Does Exit) (Does Exit) (Does Exit) (Does Exit) (Does Exit) (Does Exit)
-    meant-Block y = s.map-Block Stmt Block Do For If While (Does Exit) (Does Exit) (Does Exit) (Does Exit) (Does Exit) (Does Exit) (does around length_of) (body_does around length_of) do_meant for_meant if_meant while_meant y
-
-    abbrev meant-Do : Do-F Stmt Block Do For If While → Do-F (Does Exit) (Does Exit) (Does Exit) (Does Exit) (Does Exit) (Does Exit)
-    meant-Do y = s.map-Do Stmt Block Do For If While (Does Exit) (Does Exit) (Does Exit) (Does Exit) (Does Exit) (Does Exit) (does around length_of) (body_does around length_of) do_meant for_meant if_meant while_meant y
-
-    abbrev meant-For : For-F Stmt Block Do For If While → For-F (Does Exit) (Does Exit) (Does Exit) (Does Exit) (Does Exit) (Does Exit)
-    meant-For y = s.map-For Stmt Block Do For If While (Does Exit) (Does Exit) (Does Exit) (Does Exit) (Does Exit) (Does Exit) (does around length_of) (body_does around length_of) do_meant for_meant if_meant while_meant y
-
-    abbrev meant-If : If-F Stmt Block Do For If While → If-F (Does Exit) (Does Exit) (Does Exit) (Does Exit) (Does Exit) (Does Exit)
-    meant-If y = s.map-If Stmt Block Do For If While (Does Exit) (Does Exit) (Does Exit) (Does Exit) (Does Exit) (Does Exit) (does around length_of) (body_does around length_of) do_meant for_meant if_meant while_meant y
-
-    abbrev meant-While : While-F Stmt Block Do For If While → While-F (Does Exit) (Does Exit) (Does Exit) (Does Exit) (Does Exit) (Does Exit)
-    meant-While y = s.map-While Stmt Block Do For If While (Does Exit) (Does Exit) (Does Exit) (Does Exit) (Does Exit) (Does Exit) (does around length_of) (body_does around length_of) do_meant for_meant if_meant while_meant y
-
-    stmt_goes : (y : StmtLayer) → Goes extra (stmt_does around length_of (meant-Stmt (plain-Stmt y)))
-    unfolding stmt_does
-    stmt_goes (Stmt-F.Block x) = goes_scoped _ x.1
-    stmt_goes (Stmt-F.Empty x) = goes_pure extra WentOn
-    stmt_goes (Stmt-F.Variables x) = goes_declaration x
-    stmt_goes (Stmt-F.Assign x) = goes_change _ x.change (goes_at extra around all x.place)
-    stmt_goes (Stmt-F.Call x) = goes_on _ (goes_call extra around all x)
-    stmt_goes (Stmt-F.Operation x) = goes_on _ (goes_operated extra around all x)
-    stmt_goes (Stmt-F.Print x) = goes_print_of x
-    stmt_goes (Stmt-F.If x) = x.1
-    stmt_goes (Stmt-F.While x) = x.1
-    stmt_goes (Stmt-F.Do x) = x.1
-    stmt_goes (Stmt-F.For x) = x.1
-    stmt_goes (Stmt-F.Break x) = goes_pure extra Broke
-    stmt_goes (Stmt-F.Continue x) = goes_pure extra Continued
-    stmt_goes (Stmt-F.Return x) = goes_returned x.value
+    maybe_goes : (x : Option SuchStmt) (y : Option Stmt) → option_map (λ z. z.0) x ≡ y → Goes extra (or_nothing (option_map (does around length_of) y))
+    maybe_goes x y is = goes_or_nothing _ (subst (λ (z : Option Stmt). MayGo extra (option_map (does around length_of) z)) is (may_go x))
 
     statements_go : (ys : List SuchStmt) → GoEach extra (map (does around length_of) (map (λ z. z.0) ys))
     statements_go [] = tt
     statements_go (y ∷ ys) = (y.1, statements_go ys)
 
-    block_goes : (y : BlockLayer) → Goes extra (block_does around length_of (meant-Block (plain-Block y)))
-    unfolding block_does
-    block_goes y = goes_in_order _ (statements_go y.statements)
+    statements_good : (x : Block) (ys : List SuchStmt) → map (λ z. z.0) ys ≡ (out-Block x).statements → GoodBlock x
+    statements_good x ys is = goes_as _ _ (meant.block_is around length_of x) (goes_in_order _ (subst (λ xs. GoEach extra (map (does around length_of) xs)) is (statements_go ys)))
 
-    do_goes : (y : DoLayer) → Goes extra (do_does around length_of (meant-Do (plain-Do y)))
-    unfolding do_does
-    do_goes y = goes_do_loop _ _ (goes y.test) y.body.1
+    if_good : (x : If) → GoodStmt (out-If x).yes → (no : Option SuchStmt) → option_map (λ z. z.0) no ≡ (out-If x).no → GoodStmt (stmts.If x)
+    if_good x chosen other is = goes_as _ _ (meant.of_if around length_of x) (goes_then extra _ _ (goes (out-If x).test) (λ v. goes_if extra (is_zero v) _ _ (maybe_goes other _ is) chosen))
 
-    for_parts : (first : Option SuchStmt) (test : Option Expr) (step : Option SuchStmt) (body : SuchStmt) (span : Span) →
-        Goes extra (for_does around length_of (meant-For (plain-For (record { first = first; test = test; step = step; body = body; span = span }))))
-    unfolding for_does
-    for_parts None test None body span = goes_also extra _ _ (goes_or_nothing None tt) (goes_loop _ _ (goes_or_true test) body.1 _ (goes_or_nothing None tt))
-    for_parts None test (Some y) body span = goes_also extra _ _ (goes_or_nothing None tt) (goes_loop _ _ (goes_or_true test) body.1 _ (goes_or_nothing (Some _) y.1))
-    for_parts (Some x) test None body span = goes_also extra _ _ (goes_or_nothing (Some _) x.1) (goes_loop _ _ (goes_or_true test) body.1 _ (goes_or_nothing None tt))
-    for_parts (Some x) test (Some y) body span = goes_also extra _ _ (goes_or_nothing (Some _) x.1) (goes_loop _ _ (goes_or_true test) body.1 _ (goes_or_nothing (Some _) y.1))
+    for_good : (x : For) (first : Option SuchStmt) → option_map (λ z. z.0) first ≡ (out-For x).first → (step : Option SuchStmt) → option_map (λ z. z.0) step ≡ (out-For x).step → GoodStmt (out-For x).body → GoodStmt (stmts.For x)
+    for_good x first is step is' body = goes_as _ _ (meant.of_for around length_of x)
+        (goes_also extra _ _ (maybe_goes first _ is) (goes_loop _ _ (goes_or_true (out-For x).test) body _ (maybe_goes step _ is')))
 
-    for_goes : (y : ForLayer) → Goes extra (for_does around length_of (meant-For (plain-For y)))
-    for_goes y = for_parts y.first y.test y.step y.body y.span
-
-    if_parts : (test : Expr) (chosen : SuchStmt) (other : Option SuchStmt) (span : Span) → Goes extra (if_does around length_of (meant-If (plain-If (record { test = test; yes = chosen; no = other; span = span }))))
-    unfolding if_does
-    if_parts test chosen None span = goes_then extra _ _ (goes test) (λ v. goes_if extra (is_zero v) _ _ (goes_or_nothing None tt) chosen.1)
-    if_parts test chosen (Some other) span = goes_then extra _ _ (goes test) (λ v. goes_if extra (is_zero v) _ _ (goes_or_nothing (Some _) other.1) chosen.1)
-
-    if_goes : (y : IfLayer) → Goes extra (if_does around length_of (meant-If (plain-If y)))
-    if_goes y = if_parts y.test y.yes y.no y.span
-
-    while_goes : (y : WhileLayer) → Goes extra (while_does around length_of (meant-While (plain-While y)))
-    unfolding while_does
-    while_goes y = goes_loop _ _ (goes y.test) y.body.1 _ (goes_pure extra WentOn)
-
-    -- ---- each tree
-
-    stmt_step : (y : StmtLayer) → StmtHolds (roll-Stmt (plain-Stmt y))
-    unfolding does body_does
-    stmt_step y = subst (λ (d : Does Exit). Goes extra d) (sym (stmt_rolls (Does Exit) (Does Exit) (Does Exit) (Does Exit) (Does Exit) (Does Exit) (stmt_does around length_of) (block_does around length_of) (do_does around length_of) (for_does around length_of) (if_does around length_of) (while_does around length_of) (plain-Stmt y))) (stmt_goes y)
-
-    block_step : (y : BlockLayer) → BlockHolds (roll-Block (plain-Block y))
-    unfolding does body_does
-    block_step y = subst (λ (d : Does Exit). Goes extra d) (sym (block_opens (Does Exit) (Does Exit) (Does Exit) (Does Exit) (Does Exit) (Does Exit) (stmt_does around length_of) (block_does around length_of) (do_does around length_of) (for_does around length_of) (if_does around length_of) (while_does around length_of) (roll-Block (plain-Block y)) ∙ ap (λ z. block_does around length_of (meant-Block z)) (out-roll-Block (plain-Block y)))) (block_goes y)
-
-    do_step : (y : DoLayer) → DoHolds (roll-Do (plain-Do y))
-    unfolding does body_does
-    do_step y = subst (λ (d : Does Exit). Goes extra d) (sym (do_opens (Does Exit) (Does Exit) (Does Exit) (Does Exit) (Does Exit) (Does Exit) (stmt_does around length_of) (block_does around length_of) (do_does around length_of) (for_does around length_of) (if_does around length_of) (while_does around length_of) (roll-Do (plain-Do y)) ∙ ap (λ z. do_does around length_of (meant-Do z)) (out-roll-Do (plain-Do y)))) (do_goes y)
-
-    for_step : (y : ForLayer) → ForHolds (roll-For (plain-For y))
-    unfolding does body_does
-    for_step y = subst (λ (d : Does Exit). Goes extra d) (sym (for_opens (Does Exit) (Does Exit) (Does Exit) (Does Exit) (Does Exit) (Does Exit) (stmt_does around length_of) (block_does around length_of) (do_does around length_of) (for_does around length_of) (if_does around length_of) (while_does around length_of) (roll-For (plain-For y)) ∙ ap (λ z. for_does around length_of (meant-For z)) (out-roll-For (plain-For y)))) (for_goes y)
-
-    if_step : (y : IfLayer) → IfHolds (roll-If (plain-If y))
-    unfolding does body_does
-    if_step y = subst (λ (d : Does Exit). Goes extra d) (sym (if_opens (Does Exit) (Does Exit) (Does Exit) (Does Exit) (Does Exit) (Does Exit) (stmt_does around length_of) (block_does around length_of) (do_does around length_of) (for_does around length_of) (if_does around length_of) (while_does around length_of) (roll-If (plain-If y)) ∙ ap (λ z. if_does around length_of (meant-If z)) (out-roll-If (plain-If y)))) (if_goes y)
-
-    while_step : (y : WhileLayer) → WhileHolds (roll-While (plain-While y))
-    unfolding does body_does
-    while_step y = subst (λ (d : Does Exit). Goes extra d) (sym (while_opens (Does Exit) (Does Exit) (Does Exit) (Does Exit) (Does Exit) (Does Exit) (stmt_does around length_of) (block_does around length_of) (do_does around length_of) (for_does around length_of) (if_does around length_of) (while_does around length_of) (roll-While (plain-While y)) ∙ ap (λ z. while_does around length_of (meant-While z)) (out-roll-While (plain-While y)))) (while_goes y)
-
-    every-Stmt : (x : Stmt-F Stmt Block Do For If While) (y : StmtLayer) → plain-Stmt y ≡ x → StmtHolds (roll-Stmt x)
-    every-Stmt x y is = subst (λ z. StmtHolds (roll-Stmt z)) is (stmt_step y)
-
-    every-Block : (x : Block-F Stmt Block Do For If While) (y : BlockLayer) → plain-Block y ≡ x → BlockHolds (roll-Block x)
-    every-Block x y is = subst (λ z. BlockHolds (roll-Block z)) is (block_step y)
-
-    every-Do : (x : Do-F Stmt Block Do For If While) (y : DoLayer) → plain-Do y ≡ x → DoHolds (roll-Do x)
-    every-Do x y is = subst (λ z. DoHolds (roll-Do z)) is (do_step y)
-
-    every-For : (x : For-F Stmt Block Do For If While) (y : ForLayer) → plain-For y ≡ x → ForHolds (roll-For x)
-    every-For x y is = subst (λ z. ForHolds (roll-For z)) is (for_step y)
-
-    every-If : (x : If-F Stmt Block Do For If While) (y : IfLayer) → plain-If y ≡ x → IfHolds (roll-If x)
-    every-If x y is = subst (λ z. IfHolds (roll-If z)) is (if_step y)
-
-    every-While : (x : While-F Stmt Block Do For If While) (y : WhileLayer) → plain-While y ≡ x → WhileHolds (roll-While x)
-    every-While x y is = subst (λ z. WhileHolds (roll-While z)) is (while_step y)
+    goods : StmtGoods GoodStmt GoodBlock
+    goods = record {
+      block = λ x g. goes_as _ _ (meant.of_block around length_of x) (goes_scoped _ g);
+      empty = λ x. goes_as _ _ (meant.of_empty around length_of x) (goes_pure extra WentOn);
+      variables = λ x. goes_as _ _ (meant.of_variables around length_of x) (goes_declaration x);
+      assign = λ x. goes_as _ _ (meant.of_assign around length_of x) (goes_change _ x.change (goes_at extra around all x.place));
+      call = λ x. goes_as _ _ (meant.of_call around length_of x) (goes_on _ (goes_call extra around all x));
+      operation = λ x. goes_as _ _ (meant.of_operation around length_of x) (goes_on _ (goes_operated extra around all x));
+      print = λ x. goes_as _ _ (meant.of_print around length_of x) (goes_print_of x);
+      break = λ x. goes_as _ _ (meant.of_break around length_of x) (goes_pure extra Broke);
+      continue = λ x. goes_as _ _ (meant.of_continue around length_of x) (goes_pure extra Continued);
+      return = λ x. goes_as _ _ (meant.of_return around length_of x) (goes_returned x.value);
+      choice = if_good;
+      while_loop = λ x g. goes_as _ _ (meant.of_while around length_of x) (goes_loop _ _ (goes (out-While x).test) g _ (goes_pure extra WentOn));
+      do_loop = λ x g. goes_as _ _ (meant.of_do around length_of x) (goes_do_loop _ _ (goes (out-Do x).test) g);
+      for_loop = for_good;
+      statements = statements_good;
+    }
 
     -- the statements of a function
     pub goes_body : (x : Block) → Goes extra (body_does around length_of x)
-    goes_body = s.ind-Block StmtHolds BlockHolds DoHolds ForHolds IfHolds WhileHolds every-Stmt every-Block every-Do every-For every-If every-While
+    goes_body = every_block goods
 
     pub goes_stmt : (x : Stmt) → Goes extra (does around length_of x)
-    goes_stmt = s.ind-Stmt StmtHolds BlockHolds DoHolds ForHolds IfHolds WhileHolds every-Stmt every-Block every-Do every-For every-If every-While
+    goes_stmt = every_stmt goods

@@ -1,5 +1,6 @@
+use cl_ground::{Items, NoMemory};
 use cl_store::{NextTuple, TupleStore};
-use cl_value::{Items, NoMemory, Steps, Template, Tuple};
+use cl_value::{Steps, Template, Tuple};
 use std::alloc::Global;
 use std::marker::Model;
 use std::sync::ledger::Ledger;
@@ -25,9 +26,10 @@ impl Model for Listed {
 
 impl Listed {
     ghost use Rattle.std.specs.Prelude.{◌≡◌, ◌+◌, ◌<◌, ◌≤◌, [], length, remove, IsNone, OnSome, Some};
-    ghost use Rattle.cl_value.specs.Room.{HasRoom, capacity_of};
+    ghost use Rattle.cl_ground.specs.Room.{HasRoom, capacity_of};
     ghost use Rattle.cl_value.specs.Replay.{first_match, found};
     ghost use Rattle.cl_store.specs.Rooms.{Stored};
+    ghost use Rattle.cl_ground.specs.declared.limits.TheConstants.{MOST_FIELDS};
 
     /// A list of no tuple. It keeps the allocator for its later growths, and takes no memory.
     pub fn new(alloc: Global) -> Listed
@@ -48,7 +50,7 @@ impl Listed {
         into: &mut Tuple,
         steps: &mut Steps<L>,
     ) -> Option<usize>
-        requires { HasRoom 16 into.old }
+        requires { HasRoom MOST_FIELDS into.old }
         ensures place { result ≡ first_match self.now.tuples template.now.items }
         ensures read { OnSome result (found self.now.tuples template.now.items ≡ Some into.new.items) }
         ensures unchanged { IsNone result → into.new ≡ into.old }
@@ -121,7 +123,7 @@ impl TupleStore for Listed {
 }
 
 ghost use Rattle.std.specs.Prelude.{◌≡◌, ◌+◌, ◌≤◌, length, map};
-ghost use Rattle.cl_value.specs.Room.{Room, HasRoom, capacity_of};
+ghost use Rattle.cl_ground.specs.Room.{Room, HasRoom, capacity_of};
 ghost use Rattle.cl_value.specs.Replay.{first_match};
 
 // The place of the first tuple that matches, after at most one comparison for each tuple.
@@ -138,6 +140,3 @@ fn search<L: Ledger>(tuples: &[Tuple], template: &Template, steps: &mut Steps<L>
     }
     None
 }
-
-#[cfg(test)]
-mod tests;

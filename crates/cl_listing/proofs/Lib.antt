@@ -1,4 +1,3 @@
-pub mod Opens
 pub mod Rules
 pub mod Sentences
 pub mod Walking

@@ -1,8 +1,7 @@
 -- How what is listed of parts goes together.
 use Rattle.std.proofs.Common.{◌≡◌, ◌∙◌, ◌<◌, ◌≤◌, ◌+◌, ap, sym, refl, ℕ, zero, suc, List, [], ◌∷◌, ◌++◌, map, drop, length, get_or, Result, Ok, Err, OnOk, arith, add-one, append_assoc}
 use Rattle.std.proofs.lemmas.List.{append-nil}
-use Rattle.std.specs.Prelude.{if◌then◌else◌}
-use Rattle.cl_listing.specs.Listing.{Entry, Site, Text, Entries, joined, is_among, texts_behind, in_expr, in_operation, in_block}
+use Rattle.cl_listing.specs.Listing.{Site, Text, Entries, joined, texts_behind, in_expr, in_operation, in_block}
 use Rattle.cl_listing.specs.Listed.{Listed, with_site, listed, listed_all, nothing_listed, sites_in, listing_of}
 use Rattle.cl_ast.specs.declared.tree.Operation.{Operation, out-Operation}
 use Rattle.cl_ast.specs.declared.tree.Chain.{Chain, out-Chain}

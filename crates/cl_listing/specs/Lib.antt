@@ -1,5 +1,4 @@
 pub mod Names
-pub mod Folds
 pub mod Listing
 pub mod Listed
 pub mod Walks

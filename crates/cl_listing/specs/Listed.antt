@@ -7,9 +7,11 @@ pub record Listed : Type 0 where
   pub sites : List ℕ
   pub texts : List (List ℕ)
 
+-- what is kept of no entries
 abbrev pub nothing_listed : Listed
 nothing_listed = record { sites = []; texts = [] }
 
+-- what is kept with one operation more, whose place stands behind the others
 abbrev pub with_site : ℕ → Listed → Listed
 with_site place l = record l { sites = l.sites ++ place ∷ [] }
 
@@ -17,6 +19,7 @@ with_site place l = record l { sites = l.sites ++ place ∷ [] }
 abbrev pub with_text : List ℕ → Listed → Listed
 with_text bytes l = record l { texts = if is_among bytes l.texts then l.texts else l.texts ++ bytes ∷ [] }
 
+-- what is kept with one entry more: each operation counts, and a text only where it is new
 abbrev pub listed : Entry → Listed → Listed
 listed (Site place) l = with_site place l
 listed (Text bytes) l = with_text bytes l

@@ -5,9 +5,9 @@ use Rattle.cl_ast.specs.declared.tree.Place.{Place}
 use Rattle.cl_ast.specs.declared.tree.Call.{Call}
 use Rattle.cl_ast.specs.declared.tree.Operation.{Operation}
 use Rattle.cl_ast.specs.declared.tree.Spanned.{Spanned}
-use Rattle.cl_ast.specs.declared.tree.Expr.TheOpen.{Expr-F, Place-F, Call-F, Operation-F, Field-F, Formal-F, Chain-F, Link-F, Prefix-F}
+use Rattle.cl_ast.specs.declared.tree.Expr.TheOpen.{Expr-F, Field-F}
 use Rattle.cl_ast.specs.declared.statement.Block.{Block}
-use Rattle.cl_ast.specs.declared.statement.Stmt.TheOpen.{Stmt-F, Block-F, If-F, While-F, Do-F, For-F}
+use Rattle.cl_ast.specs.declared.statement.Stmt.TheOpen.{Stmt-F}
 use Rattle.cl_ast.specs.declared.statement.Declarator.{Declarator}
 use Rattle.cl_ast.specs.declared.statement.Form.{Form}
 use Rattle.cl_ast.specs.declared.statement.Form.TheVariants as forms
@@ -15,7 +15,7 @@ use Rattle.cl_ast.specs.declared.statement.Change.{Change}
 use Rattle.cl_ast.specs.declared.statement.Change.TheVariants as changes
 use Rattle.cl_ast.specs.declared.statement.Item.{Item}
 use Rattle.cl_ast.specs.declared.statement.Item.TheVariants as items
-use Rattle.cl_listing.specs.Folds.{fold_expr, fold_place, fold_call, fold_operation, fold_block}
+use Rattle.cl_ast.specs.Folds.{ExprSteps, fold_expr, fold_place, fold_call, fold_operation, StmtSteps, fold_block}
 use Rattle.cl_listing.specs.Names.{same_name}
 
 -- an operation, at its word, or a string literal that is a field
@@ -23,9 +23,11 @@ pub data Entry : Type 0 where
   Site : (place : ℕ) → Entry
   Text : (bytes : List ℕ) → Entry
 
+-- what stands in a part of a text, in the order of the text
 abbrev pub Entries : Type 0
 Entries = List Entry
 
+-- the entries of parts, one part after the other
 abbrev pub joined : List Entries → Entries
 joined [] = []
 joined (x ∷ xs) = x ++ joined xs
@@ -50,45 +52,44 @@ field_entries (Field-F.Text t) = Text t.bytes ∷ []
 field_entries (Field-F.Plain e) = e
 field_entries (Field-F.Formal f) = f
 
-abbrev pub call_entries : Call-F Entries Entries Entries Entries Entries Entries Entries Entries Entries → Entries
-call_entries c = joined c.arguments
+-- of each part of an expression, what stands in its parts
+abbrev pub expr_steps : ExprSteps Entries Entries Entries Entries Entries Entries Entries Entries Entries
+expr_steps = record {
+  expr = expr_entries;
+  field = field_entries;
+  call = λ c. joined c.arguments;
+  chain = λ c. c.first ++ joined c.others;
+  formal = λ f. f.target;
+  link = λ l. l.operand;
+  operation = λ o. Site o.span.start ∷ joined o.fields;
+  place = λ p. or_none p.index;
+  prefix = λ x. x.operand;
+}
 
-abbrev pub chain_entries : Chain-F Entries Entries Entries Entries Entries Entries Entries Entries Entries → Entries
-chain_entries c = c.first ++ joined c.others
-
-abbrev pub formal_entries : Formal-F Entries Entries Entries Entries Entries Entries Entries Entries Entries → Entries
-formal_entries f = f.target
-
-abbrev pub link_entries : Link-F Entries Entries Entries Entries Entries Entries Entries Entries Entries → Entries
-link_entries l = l.operand
-
-abbrev pub operation_entries : Operation-F Entries Entries Entries Entries Entries Entries Entries Entries Entries → Entries
-operation_entries o = Site o.span.start ∷ joined o.fields
-
-abbrev pub place_entries : Place-F Entries Entries Entries Entries Entries Entries Entries Entries Entries → Entries
-place_entries p = or_none p.index
-
-abbrev pub prefix_entries : Prefix-F Entries Entries Entries Entries Entries Entries Entries Entries Entries → Entries
-prefix_entries x = x.operand
-
+-- what stands in an expression
 unfoldable pub in_expr : Expr → Entries
-in_expr = fold_expr Entries Entries Entries Entries Entries Entries Entries Entries Entries expr_entries field_entries call_entries chain_entries formal_entries link_entries operation_entries place_entries prefix_entries
+in_expr = fold_expr expr_steps
 
+-- what stands in the index of a place
 unfoldable pub in_place : Place → Entries
-in_place = fold_place Entries Entries Entries Entries Entries Entries Entries Entries Entries expr_entries field_entries call_entries chain_entries formal_entries link_entries operation_entries place_entries prefix_entries
+in_place = fold_place expr_steps
 
+-- what stands in the arguments of a call
 unfoldable pub in_call : Call → Entries
-in_call = fold_call Entries Entries Entries Entries Entries Entries Entries Entries Entries expr_entries field_entries call_entries chain_entries formal_entries link_entries operation_entries place_entries prefix_entries
+in_call = fold_call expr_steps
 
+-- an operation, and then what stands in its fields
 unfoldable pub in_operation : Operation → Entries
-in_operation = fold_operation Entries Entries Entries Entries Entries Entries Entries Entries Entries expr_entries field_entries call_entries chain_entries formal_entries link_entries operation_entries place_entries prefix_entries
+in_operation = fold_operation expr_steps
 
 -- ---- of a statement
 
+-- what stands in an expression that may be left out
 abbrev pub in_maybe : Option Expr → Entries
 in_maybe None = []
 in_maybe (Some e) = in_expr e
 
+-- what stands on the right side of a change; `++` and `--` have none
 abbrev pub in_change : Change → Entries
 in_change (changes.Set e) = in_expr e
 in_change (changes.Add e) = in_expr e
@@ -97,15 +98,18 @@ in_change (changes.Multiply e) = in_expr e
 in_change changes.Increment = []
 in_change changes.Decrement = []
 
+-- what stands in the initial value of a variable, where it has one
 abbrev pub in_form : Form → Entries
 in_form forms.Bare = []
 in_form (forms.Array size) = []
 in_form (forms.Value x) = in_expr x.expr
 
+-- what stands in the initial values of the variables of a declaration
 abbrev pub in_declarators : List Declarator → Entries
 in_declarators [] = []
 in_declarators (d ∷ ds) = in_form d.form ++ in_declarators ds
 
+-- what stands in the arguments of a `printf`, whose format is no field
 abbrev pub in_arguments : List Spanned → Entries
 in_arguments [] = []
 in_arguments (x ∷ xs) = in_expr x.expr ++ in_arguments xs
@@ -126,26 +130,24 @@ stmt_entries (Stmt-F.Break span) = []
 stmt_entries (Stmt-F.Continue span) = []
 stmt_entries (Stmt-F.Return r) = in_maybe r.value
 
-abbrev pub block_entries : Block-F Entries Entries Entries Entries Entries Entries → Entries
-block_entries b = joined b.statements
+-- of each part of a statement
+abbrev pub stmt_steps : StmtSteps Entries Entries Entries Entries Entries Entries
+stmt_steps = record {
+  stmt = stmt_entries;
+  block = λ b. joined b.statements;
+  do_loop = λ d. d.body ++ in_expr d.test;
+  for_loop = λ f. or_none f.first ++ (in_maybe f.test ++ (or_none f.step ++ f.body));
+  choice = λ x. in_expr x.test ++ (x.yes ++ or_none x.no);
+  while_loop = λ w. in_expr w.test ++ w.body;
+}
 
-abbrev pub do_entries : Do-F Entries Entries Entries Entries Entries Entries → Entries
-do_entries d = d.body ++ in_expr d.test
-
-abbrev pub for_entries : For-F Entries Entries Entries Entries Entries Entries → Entries
-for_entries f = or_none f.first ++ (in_maybe f.test ++ (or_none f.step ++ f.body))
-
-abbrev pub if_entries : If-F Entries Entries Entries Entries Entries Entries → Entries
-if_entries x = in_expr x.test ++ (x.yes ++ or_none x.no)
-
-abbrev pub while_entries : While-F Entries Entries Entries Entries Entries Entries → Entries
-while_entries w = in_expr w.test ++ w.body
-
+-- what stands in the statements of a block
 unfoldable pub in_block : Block → Entries
-in_block = fold_block Entries Entries Entries Entries Entries Entries stmt_entries block_entries do_entries for_entries if_entries while_entries
+in_block = fold_block stmt_steps
 
 -- ---- of a text
 
+-- what stands in a text: in the initial values of its globals and in its functions
 abbrev pub in_items : List Item → Entries
 in_items [] = []
 in_items (items.Define d ∷ xs) = in_items xs
@@ -160,6 +162,7 @@ site_at place [] = 0
 site_at place (Site other ∷ more) = if place == other then 0 else suc (site_at place more)
 site_at place (Text bytes ∷ more) = site_at place more
 
+-- whether the text is one of these
 abbrev pub is_among : List ℕ → List (List ℕ) → Bool
 is_among bytes [] = false
 is_among bytes (x ∷ xs) = if same_name bytes x then true else is_among bytes xs

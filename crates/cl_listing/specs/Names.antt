@@ -2,6 +2,7 @@
 use Rattle.std.specs.Prelude.{ℕ, nat_eq, List, Bool}
 use Rattle.std.specs.Cmp.Lexicographic.{pointwise}
 
+-- a name is its bytes, wherever it stands
 abbrev pub Name : Type 0
 Name = List ℕ
 

@@ -2,6 +2,7 @@
 use Rattle.std.specs.Prelude.{ℕ, ◌==◌, suc, List, [], ◌∷◌, Option, None, Some, option_map, if◌then◌else◌}
 use denote.Ref.{Bor}
 
+-- the bytes that are borrowed, as they are
 abbrev pub bytes_of : Bor (List ℕ) → List ℕ
 bytes_of b = b.now
 

@@ -8,7 +8,5 @@ mod expression;
 mod item;
 mod listing;
 mod statement;
-#[cfg(test)]
-mod tests;
 
 pub use listing::Listing;

@@ -43,7 +43,7 @@ use Rattle.cl_ast.specs.declared.statement.Item.{Item}
 use Rattle.cl_ast.specs.declared.statement.Item.TheVariants as items
 use Rattle.cl_ast.specs.declared.statement.Parameter.{Parameter}
 use Rattle.cl_model.specs.Demand.{Demand, Outcome, Wants, Finishes, Traps, Misfit}
-use Rattle.cl_listing.specs.Folds.{folds}
+use Rattle.cl_ast.specs.Folds.{folds}
 use Rattle.cl_model.specs.Doing.{then_do, ◌>>=◌, ◌>>◌, pure, trap, ask, variables, set_variables, print, tick, ticks_left, claim, release, checked, each_onto, through}
 use Rattle.cl_meaning.specs.Operations.{variable, place, value_at, store, formal, fill, received, requested, evaluated}
 use Rattle.cl_meaning.specs.Expressions.{truth_of, joined, called, live_part, expr_does, field_does, call_does, chain_does, link_does, formal_does, place_does, prefix_does, operation_by, operation_does, expr_meant, value, place_meant, call, operation}

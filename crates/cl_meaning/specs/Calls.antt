@@ -25,6 +25,7 @@ parameter p v = do
   w ← checked (converted p.type_name v)
   pure (record { name = p.name.bytes; of = p.type_name; values = w ∷ [] })
 
+-- arguments become parameters, from left to right
 unfoldable pub parameters : List Parameter → List Value → Does (List Variable)
 parameters (p ∷ ps) (v ∷ vs) = do
   first ← parameter p v
@@ -88,6 +89,7 @@ module _ (fixed : Fixed) where
     set_variables (back_in before.locals after)
     result (result_type f) exit
 
+  -- a call of a function: its cells are claimed before its body and released behind it
   unfoldable pub run : (Name → List Value → Does Value) → Function → List Variable → Does Value
   run call f given = do
     claim (frame_cells fixed.length_of f)

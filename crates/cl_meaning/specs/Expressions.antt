@@ -13,7 +13,7 @@ use Rattle.cl_ast.specs.declared.tree.Operator.TheVariants as operators
 use Rattle.cl_ast.specs.declared.tree.Verb.{Verb}
 use Rattle.cl_ast.specs.declared.tree.Verb.TheVariants as verbs
 use Rattle.cl_ast.specs.declared.tree.Expr.TheOpen.{Expr-F, Place-F, Call-F, Operation-F, Field-F, Formal-F, Chain-F, Link-F, Prefix-F}
-use Rattle.cl_listing.specs.Folds.{fold_expr, fold_place, fold_call, fold_operation}
+use Rattle.cl_ast.specs.Folds.{ExprSteps, fold_expr, fold_place, fold_call, fold_operation}
 use Rattle.cl_model.specs.Doing.{◌>>=◌, pure, checked, each, through}
 use Rattle.cl_model.specs.Numbers.{negated, truth, is_zero}
 use Rattle.cl_meaning.specs.Operators.{literal, operated}
@@ -139,17 +139,25 @@ module _ (around : Surroundings) where
 
   -- ---- what each does
 
-  unfoldable pub expr_meant : Expr → ExprDoes
-  expr_meant = fold_expr ExprDoes FieldDoes CallDoes (Does Value) (Does Aim) (Value → Does Value) (Does Value) PlaceDoes (Does Value) expr_does field_does call_does chain_does formal_does link_does operation_does place_does prefix_does
+  -- of each part of an expression, what it does
+  abbrev pub expr_steps : ExprSteps ExprDoes FieldDoes CallDoes (Does Value) (Does Aim) (Value → Does Value) (Does Value) PlaceDoes (Does Value)
+  expr_steps = record { expr = expr_does; field = field_does; call = call_does; chain = chain_does; formal = formal_does; link = link_does; operation = operation_does; place = place_does; prefix = prefix_does }
 
+  unfoldable pub expr_meant : Expr → ExprDoes
+  expr_meant = fold_expr expr_steps
+
+  -- the value of an expression, and all that is done to get it
   unfoldable pub value : Expr → Does Value
   value e = (expr_meant e).value
 
+  -- a place by its name, with what is done to find it in the variable
   unfoldable pub place_meant : Place → PlaceDoes
-  place_meant = fold_place ExprDoes FieldDoes CallDoes (Does Value) (Does Aim) (Value → Does Value) (Does Value) PlaceDoes (Does Value) expr_does field_does call_does chain_does formal_does link_does operation_does place_does prefix_does
+  place_meant = fold_place expr_steps
 
+  -- a call of a function by the process itself
   unfoldable pub call : Call → Does Value
-  call c = called (fold_call ExprDoes FieldDoes CallDoes (Does Value) (Does Aim) (Value → Does Value) (Does Value) PlaceDoes (Does Value) expr_does field_does call_does chain_does formal_does link_does operation_does place_does prefix_does c)
+  call c = called (fold_call expr_steps c)
 
+  -- what a tuple operation does, with its answer as an `int`
   unfoldable pub operation : Operation → Does Value
-  operation = fold_operation ExprDoes FieldDoes CallDoes (Does Value) (Does Aim) (Value → Does Value) (Does Value) PlaceDoes (Does Value) expr_does field_does call_does chain_does formal_does link_does operation_does place_does prefix_does
+  operation = fold_operation expr_steps

@@ -15,7 +15,9 @@ use Rattle.cl_model.specs.Numbers.{number, truth}
 use Rattle.cl_meaning.specs.Operators.{converted, field_type}
 use Rattle.cl_listing.specs.Names.{Name}
 use Rattle.cl_meaning.specs.Variables.{Variable, Variables, found, element, with_element, changed}
+use Rattle.cl_ground.specs.declared.limits.TheConstants.{MOST_DEPTH}
 
+-- what a process with these variables does to give an `A`, unless it traps
 abbrev pub Does : Type 0 → Type 0
 Does A = doing.Does Variables A
 
@@ -26,6 +28,7 @@ abbrev pub index_of : ℤ → ℕ → Checked ℕ
 index_of (pos n) size = if nat_lt n size then Ok n else Err IndexRange
 index_of (negsuc n) size = Err IndexRange
 
+-- the innermost variable of this name, as it is then
 unfoldable pub variable : Name → Does Variable
 variable name = do
   all ← variables
@@ -66,6 +69,7 @@ formal name at = do
   v ← variable name
   pure (Fills v.of name k)
 
+-- a field as a slot of a template: a value is an actual, and a place a formal of its type
 abbrev pub slot : Aim → Slot
 slot (Holds v) = Actual v
 slot (Fills of name at) = Formal (field_type of)
@@ -112,4 +116,4 @@ requested site verb parts = do
 unfoldable pub evaluated : ℕ → ℕ → List (Does PlainPart) → Does Value
 evaluated depth site parts = do
   live ← each parts
-  if nat_lt depth 64 then (ask (record { site = site; ask = Eval live }) >> pure (truth true)) else trap EvalDepth
+  if nat_lt depth MOST_DEPTH then (ask (record { site = site; ask = Eval live }) >> pure (truth true)) else trap EvalDepth

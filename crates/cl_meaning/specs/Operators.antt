@@ -19,11 +19,13 @@ literal (constants.Int n) = Int n
 literal (constants.Long n) = Long n
 literal (constants.Character byte) = Int (pos byte)
 
+-- 0 as a value of this type
 abbrev pub zero_of : TypeName → Value
 zero_of types.Int = Int (pos 0)
 zero_of types.Long = Long (pos 0)
 zero_of types.Char = Char 0
 
+-- a type of variables as a type of fields of tuples
 abbrev pub field_type : TypeName → FieldType
 field_type types.Int = fields.Int
 field_type types.Long = fields.Long

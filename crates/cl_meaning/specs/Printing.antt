@@ -10,10 +10,12 @@ abbrev pub first : List Value → Value
 first [] = Int (pos 0)
 first (v ∷ vs) = v
 
+-- the values behind that which a directive has used
 abbrev pub behind_first : List Value → List Value
 behind_first [] = []
 behind_first (v ∷ vs) = vs
 
+-- the first value that is left, in decimal digits, behind a `-` where it is negative
 abbrev pub decimal_of : List Value → List ℕ
 decimal_of vs = signed_decimal (number (first vs))
 

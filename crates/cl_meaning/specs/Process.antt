@@ -14,6 +14,7 @@ use Rattle.cl_meaning.specs.Operations.{Does}
 use Rattle.cl_listing.specs.Listing.{in_items, site_at, texts_of, text_number}
 use Rattle.cl_meaning.specs.Outer.{outer, size_in, global_cells, functions_of}
 use Rattle.cl_meaning.specs.Calls.{Fixed, function_named, calls, run}
+use Rattle.cl_ground.specs.declared.limits.TheConstants.{MOST_ACTIVE}
 
 -- what stays the same all over a process of this depth
 abbrev pub fixed : List Item → ℕ → Fixed
@@ -29,6 +30,7 @@ fixed xs depth = record {
 abbrev pub begun : List Item → ℕ → State Variables
 begun xs ticks = record { variables = record { globals = outer xs; locals = [] }; ticks = ticks; cells = 0; printed = 0 }
 
+-- the cells that each process of a text claims for its globals
 abbrev pub cells_of_globals : List Item → ℕ
 cells_of_globals xs = global_cells (size_in (outer xs)) xs
 
@@ -48,13 +50,14 @@ called_at xs depth number values = call_of (slice_get (functions_of xs) number)
   where
     call_of : Option Function → Does Value
     call_of None = pure (zero_of types.Int)
-    call_of (Some f) = calls (fixed xs depth) 256 f.name.bytes values
+    call_of (Some f) = calls (fixed xs depth) MOST_ACTIVE f.name.bytes values
 
 -- a field that was evaluated by the maker, or a call that is done here
 unfoldable pub part_does : List Item → ℕ → PlainPart → Does Value
 part_does xs depth (Ready v) = pure v
 part_does xs depth (Call number values gives) = called_at xs depth number values
 
+-- the fields of a live tuple, from left to right, become those of the tuple
 unfoldable pub parts_do : List Item → ℕ → List PlainPart → Does (List Value)
 parts_do xs depth [] = pure []
 parts_do xs depth (p ∷ ps) = do
@@ -70,6 +73,7 @@ live xs depth parts = do
 
 -- ---- demands
 
+-- what a process does from its start on, and the values that it gives in the end
 unfoldable pub process : List Item → PlainStart → Does (List Value)
 process xs Main = main xs
 process xs (Lives site parts depth) = live xs depth parts

@@ -19,7 +19,7 @@ use Rattle.cl_ast.specs.declared.statement.Size.{Size}
 use Rattle.cl_ast.specs.declared.statement.Change.{Change}
 use Rattle.cl_ast.specs.declared.statement.Change.TheVariants as changes
 use Rattle.cl_ast.specs.declared.statement.Print.{Print}
-use Rattle.cl_listing.specs.Folds.{fold_stmt, fold_block}
+use Rattle.cl_ast.specs.Folds.{StmtSteps, fold_stmt, fold_block}
 use Rattle.cl_model.specs.Doing.{◌>>=◌, ◌>>◌, pure, trap, print, tick, ticks_left, variables, set_variables, checked, each}
 use Rattle.cl_model.specs.Numbers.{is_zero}
 use Rattle.cl_meaning.specs.Operators.{converted, zero_of, operated}
@@ -43,6 +43,7 @@ unfoldable pub before : Exit → Does Exit → Does Exit
 before WentOn rest = rest
 before exit rest = pure exit
 
+-- statements one after the other, up to one that doesn't go on
 unfoldable pub in_order : List (Does Exit) → Does Exit
 in_order [] = pure WentOn
 in_order (part ∷ more) = do
@@ -65,6 +66,7 @@ going_on part = part >> pure WentOn
 
 -- ---- declarations
 
+-- a variable of this name, type and values is declared in the innermost scope
 unfoldable pub declare : TypeName → Name → List Value → Does Exit
 declare of name values = do
   all ← variables
@@ -122,6 +124,7 @@ or_nothing (Some part) = part
 -- ---- the rules
 
 module _ (around : Surroundings) (length_of : Size → ℕ) where
+  -- the condition of a `for`; where it is left out it holds
   unfoldable pub or_true : Option Expr → Does Value
   or_true None = pure (Int (pos 1))
   or_true (Some e) = value around e
@@ -135,6 +138,7 @@ module _ (around : Surroundings) (length_of : Size → ℕ) where
     w ← checked (converted of v)
     declare of name (w ∷ [])
 
+  -- one local is declared, with the values with which it begins
   unfoldable pub declarator_does : TypeName → Declarator → Does Exit
   declarator_does of d = form_does of d.name.bytes d.form
 
@@ -150,6 +154,7 @@ module _ (around : Surroundings) (length_of : Size → ℕ) where
     new ← checked (operated operator old v)
     going_on (store p.name at new)
 
+  -- the place is found, then the right side evaluated, then the value stored
   unfoldable pub change_does : PlaceDoes → Change → Does Exit
   change_does p (changes.Set e) = do
     at ← p.at
@@ -167,6 +172,7 @@ module _ (around : Surroundings) (length_of : Size → ℕ) where
     values ← each (map (λ x. value around x.expr) p.arguments)
     going_on (print (filled p.format.bytes values))
 
+  -- the function is left, with the value where there is one
   unfoldable pub returned : Option Expr → Does Exit
   returned None = pure (Returned None)
   returned (Some e) = do
@@ -207,9 +213,14 @@ module _ (around : Surroundings) (length_of : Size → ℕ) where
   unfoldable pub while_does : While-F (Does Exit) (Does Exit) (Does Exit) (Does Exit) (Does Exit) (Does Exit) → Does Exit
   while_does w = loop (value around w.test) w.body (pure WentOn)
 
+  -- of each part of a statement, what it does
+  abbrev pub stmt_steps : StmtSteps (Does Exit) (Does Exit) (Does Exit) (Does Exit) (Does Exit) (Does Exit)
+  stmt_steps = record { stmt = stmt_does; block = block_does; do_loop = do_does; for_loop = for_does; choice = if_does; while_loop = while_does }
+
+  -- what a statement does, and how it leaves off
   unfoldable pub does : Stmt → Does Exit
-  does = fold_stmt (Does Exit) (Does Exit) (Does Exit) (Does Exit) (Does Exit) (Does Exit) stmt_does block_does do_does for_does if_does while_does
+  does = fold_stmt stmt_steps
 
   -- what the outermost block of a function does: its locals stand beside the parameters
   unfoldable pub body_does : Block → Does Exit
-  body_does = fold_block (Does Exit) (Does Exit) (Does Exit) (Does Exit) (Does Exit) (Does Exit) stmt_does block_does do_does for_does if_does while_does
+  body_does = fold_block stmt_steps

@@ -6,6 +6,7 @@ use Rattle.cl_value.specs.declared.value.Value.{Value}
 use Rattle.cl_value.specs.Plain.{PlainRequest, PlainReply}
 use Rattle.cl_value.specs.Acts.{fits}
 use Rattle.cl_model.specs.Demand.{Demand, Outcome, Wants, Finishes, Traps, Misfit}
+use Rattle.cl_ground.specs.declared.limits.TheConstants.{MOST_CELLS, MOST_PRINTED}
 
 -- What is done: it gives a value, prints and goes on, asks and goes on by the reply, or traps.
 pub data Steps (A : Type 0) : Type 0 where
@@ -21,6 +22,7 @@ pub record State (V : Type 0) : Type 0 where
   pub cells : ℕ
   pub printed : ℕ
 
+-- what is done from a state: steps that give a value and the state behind them
 abbrev pub Does : Type 0 → Type 0 → Type 0
 Does V A = State V → Steps (A × State V)
 
@@ -58,9 +60,10 @@ set_variables to = λ s. Gives (tt, record s { variables = to })
 -- a process prints at most 65,536 bytes; where more would be printed, none is
 unfoldable pub print : {V : Type 0} → List ℕ → Does V (Unit {0})
 print bytes = λ s.
-    if nat_lt 65536 (s.printed + length bytes) then Stops OutputLimit
+    if nat_lt MOST_PRINTED (s.printed + length bytes) then Stops OutputLimit
     else Prints bytes (Gives (tt, record s { printed = s.printed + length bytes }))
 
+-- one tick of so many that are left, if any
 abbrev pub counted : {V : Type 0} → State V → ℕ → Steps (Unit {0} × State V)
 counted s zero = Stops StepLimit
 counted s (suc n) = Gives (tt, record s { ticks = n })
@@ -74,7 +77,7 @@ ticks_left = λ s. Gives (s.ticks, s)
 
 -- so many cells more, of 65,536
 unfoldable pub claim : {V : Type 0} → ℕ → Does V (Unit {0})
-claim n = λ s. if nat_lt 65536 (s.cells + n) then Stops CellLimit else Gives (tt, record s { cells = s.cells + n })
+claim n = λ s. if nat_lt MOST_CELLS (s.cells + n) then Stops CellLimit else Gives (tt, record s { cells = s.cells + n })
 
 unfoldable pub release : {V : Type 0} → ℕ → Does V (Unit {0})
 release n = λ s. Gives (tt, record s { cells = s.cells - n })
@@ -96,6 +99,7 @@ each_onto done (p ∷ ps) = do
   a ← p
   each_onto (done ++ a ∷ []) ps
 
+-- one after another, the values in their order
 abbrev pub each : {V A : Type 0} → List (Does V A) → Does V (List A)
 each parts = each_onto [] parts
 

@@ -8,6 +8,7 @@ use Rattle.cl_model.specs.Demand.{Outcome, Wants, Finishes, Traps, Misfit, Deman
 abbrev pub Answers : Type 0
 Answers = List PlainReply → Demand
 
+-- it is how the other begins
 abbrev pub IsFront : List ℕ → List ℕ → Type 0
 IsFront front all = (rest : List ℕ) × (all ≡ front ++ rest)
 
@@ -17,6 +18,7 @@ IsOver (Finishes values) = Unit {0}
 IsOver (Traps trap) = Unit {0}
 IsOver _ = ⊥
 
+-- one reply more
 abbrev pub with_reply : List PlainReply → PlainReply → List PlainReply
 with_reply replies r = replies ++ r ∷ []
 

@@ -20,6 +20,7 @@ number (Text n) = pos n
 abbrev pub truth : Bool → Value
 truth test = if test then Int (pos 1) else Int (pos 0)
 
+-- whether its number is 0
 abbrev pub is_zero : Value → Bool
 is_zero v = int_eq (number v) (pos 0)
 
@@ -30,9 +31,11 @@ abbrev pub is_within : ℕ → ℤ → Bool
 is_within bits (pos n) = nat_lt n (2 ^ bits)
 is_within bits (negsuc n) = nat_lt n (2 ^ bits)
 
+-- an `int` of this number, if it fits one
 abbrev pub int_or_trap : ℤ → Checked Value
 int_or_trap n = if is_within 31 n then Ok (Int n) else Err Overflow
 
+-- a `long` of this number, if it fits one
 abbrev pub long_or_trap : ℤ → Checked Value
 long_or_trap n = if is_within 63 n then Ok (Long n) else Err Overflow
 
@@ -53,14 +56,17 @@ byte_of (negsuc n) = 255 - n % 256
 abbrev pub as_int : Value → Checked Value
 as_int v = int_or_trap (number v)
 
+-- a conversion to `long`, which each value fits
 abbrev pub as_long : Value → Checked Value
 as_long v = Ok (Long (number v))
 
+-- a conversion to `char`: modulo 256
 abbrev pub as_char : Value → Checked Value
 as_char v = Ok (Char (byte_of (number v)))
 
 -- ---- operators
 
+-- what is done with a result, unless it trapped
 abbrev pub and_then : {A B : Type 0} → Checked A → (A → Checked B) → Checked B
 and_then (Ok a) f = f a
 and_then (Err t) f = Err t
@@ -73,11 +79,14 @@ quotient a b = if is_zero b then Err DivideByZero else in_common a b (int_div (n
 abbrev pub remainder : Value → Value → Checked Value
 remainder a b = and_then (quotient a b) (λ q. in_common a b (int_rem (number a) (number b)))
 
+-- whether the first number is the smaller one
 abbrev pub is_less : Value → Value → Bool
 is_less a b = int_lt (number a) (number b)
 
+-- whether they have one number
 abbrev pub is_equal : Value → Value → Bool
 is_equal a b = int_eq (number a) (number b)
 
+-- the negation, in the type of the operand
 abbrev pub negated : Value → Checked Value
 negated v = in_common v v (neg_ℤ (number v))

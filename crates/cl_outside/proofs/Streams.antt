@@ -2,12 +2,7 @@
 use Rattle.std.proofs.Common.{◌≡◌, ◌+◌, ◌≤◌, ℕ, List, [], ◌++◌, length, take, drop, refl, arith, length-append, length-drop, sym, ◌∙◌, ap, append_assoc, append-nil, take-append-drop, drop-drop, length-take-le}
 use Rattle.std.specs.Prelude.{Option, Some, None}
 use Rattle.std.proofs.Math.Seq.{take-add, take-length}
-use Rattle.cl_outside.specs.Streams.{Gives, Takes, TakesAll, Loses, EndsAt, Appends}
-
--- nothing was given yet
-pub takes_nothing : (before : Option (List ℕ)) → Takes 0 [] before before
-takes_nothing None = tt
-takes_nothing (Some bytes) = record { some = omega arith; same = refl; rest = refl }
+use Rattle.cl_outside.specs.Streams.{Gives, Takes, TakesAll, EndsAt, Appends}
 
 gives_more : (xs into : List ℕ) (n : ℕ) (bytes : List ℕ) (rest : List ℕ) (after : Option (List ℕ)) → Gives (length xs) xs bytes (Some rest) → Gives n into rest after → n ≤ length into → Gives (length (xs ++ take n into)) (xs ++ take n into) bytes after
 gives_more xs into n bytes rest after first next le =
@@ -31,11 +26,6 @@ takes_more xs ys into n (Some bytes) None after same le first next = absurd (cc 
 takes_more xs ys into n (Some bytes) (Some rest) after same le first next =
     rw same (gives_more xs into n bytes rest after first next le)
 
--- what was given is lost
-pub takes_loses : (n : ℕ) (xs : List ℕ) (before after : Option (List ℕ)) → Takes n xs before after → Loses n before after
-takes_loses n xs None after given = tt
-takes_loses n xs (Some bytes) after given = record { some = given.some; rest = given.rest }
-
 -- a read of 0 bytes says that these were all
 pub takes_all : (xs ys into : List ℕ) (n : ℕ) (before between after : Option (List ℕ)) → ys ≡ xs → n ≡ 0 → Takes (length xs) xs before between → Takes n into between after → EndsAt n between → TakesAll ys before after
 takes_all xs ys into n None between after same zero first next end = tt
@@ -47,11 +37,6 @@ takes_all xs ys into n (Some bytes) (Some rest) after same zero first next end =
     let own : take (length xs) xs ≡ xs = take-length xs in
     let front : xs ++ [] ≡ xs = append-nil xs in
     record { same = cc (first.same, whole, own, front, none, r, same); rest = next.rest ∙ ap (λ k. Some (drop k rest)) zero ∙ ap Some none }
-
--- nothing was written yet
-pub appends_nothing : (before : Option (List ℕ)) → Appends before [] before
-appends_nothing None = tt
-appends_nothing (Some old) = ap Some (sym (append-nil old))
 
 -- and then the next n of the bytes
 pub appends_more : (m n : ℕ) (bytes others : List ℕ) (before between after : Option (List ℕ)) → others ≡ drop m bytes → Appends before (take m bytes) between → Appends between (take n others) after → Appends before (take (m + n) bytes) after

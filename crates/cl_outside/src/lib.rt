@@ -16,8 +16,6 @@ mod memory_sink;
 mod memory_source;
 mod reading;
 mod stream;
-#[cfg(test)]
-mod tests;
 mod wrapped;
 mod writing;
 

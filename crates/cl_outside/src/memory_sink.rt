@@ -1,6 +1,6 @@
 use crate::bytes::is_listed;
 use crate::{Failed, Sink};
-use cl_value::{Items, NoMemory};
+use cl_ground::{Items, NoMemory};
 use std::alloc::Global;
 use std::marker::Model;
 
@@ -22,7 +22,7 @@ pub struct MemSink {
 
 impl Model for MemSink {
     ghost use Rattle.std.specs.Prelude.{◌<◌, ◌≤◌};
-    ghost use Rattle.cl_value.specs.Room.{Room};
+    ghost use Rattle.cl_ground.specs.Room.{Room};
     ghost use Rattle.cl_outside.specs.Memory.{Output};
 
     ghost Value = { Output };

@@ -1,5 +1,5 @@
 use crate::{Failed, Source};
-use cl_value::Items;
+use cl_ground::Items;
 use std::alloc::Global;
 
 /// Why not all was read.
@@ -17,7 +17,7 @@ pub enum ReadEnd {
 const BUFFER: usize = 4096;
 
 ghost use Rattle.std.specs.Prelude.{◌≡◌, ◌⊎◌, ◌+◌, ◌-◌, ◌^◌, ◌<◌, ◌≤◌, length, IfOk, IsErrOf};
-ghost use Rattle.cl_value.specs.Room.{Room};
+ghost use Rattle.cl_ground.specs.Room.{Room};
 ghost use Rattle.cl_outside.specs.Faults.{Rose};
 ghost use Rattle.cl_outside.specs.Streams.{TakesAll, Loses, LosesUpTo};
 

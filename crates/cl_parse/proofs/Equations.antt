@@ -30,8 +30,8 @@ use Rattle.cl_ast.specs.Trees.{Index, meaning, to_started, to_typed, to_item, sp
 use Rattle.cl_ast.proofs.Fits.{grammar_fits}
 use Rattle.cl_parse_expr.specs.Steps.{begins_of, token_of, reading}
 use Rattle.cl_parse_expr.specs.Readings.{refused}
-use Rattle.cl_parse.specs.Classes.{classes_of}
-use Rattle.cl_parse.specs.declared.class.Class.TheVariants as classes
+use Rattle.cl_parse_expr.specs.Classes.{classes_of}
+use Rattle.cl_parse_expr.specs.declared.class.Class.TheVariants as classes
 use Rattle.cl_parse.specs.Rows.{change_row, changed_row, next_spanned_row, formatted_row, otherwise_row, line_row, head_row, inner_row, next_declarator_row, parameter_row, next_parameter_row, parameters_row, function_row, shared_row}
 use Rattle.cl_parse.specs.Readings.{is_continue, change_reading, changed_reading, behind_name_reading, started_reading, stepped_reading, operation_reading, print_reading, next_spanned_reading, more_spanned_reading, formatted_reading, condition_reading, nested_reading, body_reading, otherwise_reading, maybe_simple_reading, maybe_expr_reading, empty_reading, line_reading, if_reading, while_reading, do_reading, head_reading, for_reading, leave_reading, return_reading, to_inner_one, inner_reading, inners_reading, sized_reading, valued_reading, declared_reading, next_declarator_reading, declarators_reading, parameter_reading, next_parameter_reading, next_parameters, more_parameters_reading, parameters_reading, sign_reading, define_reading, behind_typed_reading, typed_reading, result_reading, untyped_reading, items_reading}
 use Rattle.cl_parse.proofs.Sights.{Sight, raw, token, both, seen, sights, choice, in_rows, part_reads, part_rows, renamed_steps, deeper, too_deep, list_reads}

@@ -2,4 +2,3 @@ pub mod Equations
 pub mod Loops
 pub mod Sights
 pub mod Verdicts
-pub mod Words

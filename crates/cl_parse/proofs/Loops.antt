@@ -24,8 +24,8 @@ use Rattle.cl_ast.specs.Trees.{meaning, tree_of, to_parameter}
 use Rattle.cl_ast.proofs.Fits.{grammar_fits}
 use Rattle.cl_parse_expr.specs.Steps.{plain_tokens, begins_of, reading}
 use Rattle.cl_parse_expr.proofs.Loops.{turn, last, plain_shorter}
-use Rattle.cl_parse.specs.Classes.{classes_of}
-use Rattle.cl_parse.specs.declared.class.Class.TheVariants as classes
+use Rattle.cl_parse_expr.specs.Classes.{classes_of}
+use Rattle.cl_parse_expr.specs.declared.class.Class.TheVariants as classes
 use Rattle.cl_parse.specs.Rows.{inner_row, next_spanned_row, next_declarator_row, next_parameter_row}
 use Rattle.cl_parse.specs.Readings.{to_inner_one, inner_reading, inners_reading, next_spanned_reading, more_spanned_reading, next_declarator_reading, declarators_reading, next_parameter_reading, more_parameters_reading, items_reading}
 use Rattle.cl_parse.proofs.Equations.{inners_reads, more_spanned_reads, declarators_reads, more_parameters_reads, items_reads}

@@ -1,4 +1,3 @@
-pub mod Classes
 pub mod Readings
 pub mod Rows
 pub mod Unit

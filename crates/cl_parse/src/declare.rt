@@ -6,11 +6,9 @@ ghost use Rattle.cl_ast.specs.Views.{plain_token, plain_kind};
 ghost use Rattle.cl_parse_expr.specs.Steps.{plain_tokens, reading, Gives};
 ghost use Rattle.cl_parse.specs.Readings.{sized_reading, valued_reading, declared_reading, next_declarator_reading, declarators_reading};
 
-use crate::class::Class;
 use crate::spanned::spanned;
-use crate::tokens::{begins, take};
 use cl_ast::{Declarator, Form, Mark, Size, Span, Token, TokenKind, TypeName, Variables, Word};
-use cl_parse_expr::{Failure, literal, name, span};
+use cl_parse_expr::{Class, Failure, begins, literal, name, span, take};
 use sqlite_items::Items;
 use std::alloc::{AllocError, Global};
 

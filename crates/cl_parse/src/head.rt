@@ -1,11 +1,9 @@
 ghost use Rattle.cl_parse_expr.specs.Steps.{plain_tokens, Gives};
 ghost use Rattle.cl_parse.specs.Readings.{condition_reading, maybe_simple_reading, maybe_expr_reading, head_reading};
 
-use crate::class::Class;
 use crate::simple::simple;
-use crate::tokens::{begins, take};
 use cl_ast::{Expr, Mark, Stmt, Token};
-use cl_parse_expr::{Failure, Level, level};
+use cl_parse_expr::{Class, Failure, Level, begins, level, take};
 use sqlite_items::Boxed;
 use std::alloc::Global;
 

@@ -3,13 +3,11 @@ ghost use Rattle.cl_ast.specs.Views.{plain_token};
 ghost use Rattle.cl_parse_expr.specs.Steps.{plain_tokens, reading, Gives};
 ghost use Rattle.cl_parse.specs.Readings.{sign_reading, define_reading, behind_typed_reading, typed_reading, result_reading, untyped_reading, items_reading};
 
-use crate::class::Class;
 use crate::declare::{declared, more_declarators, type_name};
 use crate::params::params;
 use crate::statement::block;
-use crate::tokens::{begins, take};
 use cl_ast::{Define, Function, Item, Mark, Token, TypeName, Variables, Word};
-use cl_parse_expr::{Failure, literal, name, span};
+use cl_parse_expr::{Class, Failure, begins, literal, name, span, take};
 use sqlite_items::Items;
 use std::alloc::Global;
 

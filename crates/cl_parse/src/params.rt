@@ -4,11 +4,9 @@ ghost use Rattle.cl_ast.specs.Grammar as parts;
 ghost use Rattle.cl_parse_expr.specs.Steps.{plain_tokens, reading, Gives};
 ghost use Rattle.cl_parse.specs.Readings.{parameter_reading, next_parameter_reading, more_parameters_reading, parameters_reading};
 
-use crate::class::Class;
 use crate::declare::type_name;
-use crate::tokens::{begins, take};
 use cl_ast::{Mark, Parameter, Span, Token, Word};
-use cl_parse_expr::{Failure, name};
+use cl_parse_expr::{Class, Failure, begins, name, take};
 use sqlite_items::Items;
 use std::alloc::Global;
 

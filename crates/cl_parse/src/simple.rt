@@ -5,15 +5,14 @@ ghost use Rattle.cl_ast.specs.Views.{plain_token, plain_kind};
 ghost use Rattle.cl_parse_expr.specs.Steps.{plain_tokens, reading, Gives};
 ghost use Rattle.cl_parse.specs.Readings.{change_reading, changed_reading, behind_name_reading, started_reading, stepped_reading, operation_reading, print_reading, formatted_reading};
 
-use crate::class::Class;
 use crate::spanned::more_spanned;
-use crate::tokens::{begins, take};
 use cl_ast::{
     Assign, Call, Change, Expr, Mark, Operation, Place, Print, Span, Spanned, Stmt, Text, Token,
     TokenKind, Word,
 };
 use cl_parse_expr::{
-    Failure, Level, arguments, fields, index, level, name, place, span, text, verb,
+    Class, Failure, Level, arguments, begins, fields, index, level, name, place, span, take, text,
+    verb,
 };
 use sqlite_items::{Boxed, Items};
 use std::alloc::Global;

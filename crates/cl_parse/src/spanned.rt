@@ -4,10 +4,8 @@ ghost use Rattle.cl_ast.specs.Grammar as parts;
 ghost use Rattle.cl_parse_expr.specs.Steps.{plain_tokens, reading, Gives};
 ghost use Rattle.cl_parse.specs.Readings.{next_spanned_reading, more_spanned_reading};
 
-use crate::class::Class;
-use crate::tokens::{begins, take};
 use cl_ast::{Mark, Spanned, Token};
-use cl_parse_expr::{Failure, Level, level, span};
+use cl_parse_expr::{Class, Failure, Level, begins, level, span, take};
 use sqlite_items::Items;
 use std::alloc::Global;
 

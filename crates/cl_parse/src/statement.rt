@@ -4,13 +4,11 @@ ghost use Rattle.cl_ast.specs.Views.{plain_kind};
 ghost use Rattle.cl_parse_expr.specs.Steps.{plain_tokens, reading, Gives};
 ghost use Rattle.cl_parse.specs.Readings.{is_continue, nested_reading, body_reading, otherwise_reading, empty_reading, line_reading, if_reading, while_reading, do_reading, for_reading, leave_reading, return_reading, inner_reading, inners_reading};
 
-use crate::class::Class;
 use crate::declare::variables;
 use crate::head::{condition, head, maybe_expr};
 use crate::simple::simple;
-use crate::tokens::{begins, take};
 use cl_ast::{Block, Do, For, If, Mark, Return, Stmt, Token, TokenKind, While, Word};
-use cl_parse_expr::{Failure, span};
+use cl_parse_expr::{Class, Failure, begins, span, take};
 use sqlite_items::{Boxed, Items};
 use std::alloc::Global;
 

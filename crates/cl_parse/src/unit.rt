@@ -1,10 +1,12 @@
+ghost use Rattle.cl_ground.specs.declared.limits.TheConstants.{MOST_NESTING};
 ghost use Rattle.std.specs.Prelude.{◌≡◌, ◌-◌, ◌<◌, ◌^◌, length, IfOk};
 ghost use Rattle.cl_parse_expr.specs.Steps.{plain_tokens};
 ghost use Rattle.cl_parse.specs.Unit.{IsTree, IsRefused};
 
 use crate::item::items;
 use cl_ast::{ParseEnd, Token, Unit};
-use cl_parse_expr::{Failure, MAX_NESTING};
+use cl_ground::MOST_NESTING;
+use cl_parse_expr::Failure;
 use std::alloc::Global;
 
 /// The place of tokens that stand at the end of others.
@@ -22,10 +24,10 @@ fn place(tokens: &[Token], rest: &[Token]) -> u32
 /// memory.
 pub fn parse(alloc: Global, tokens: &[Token]) -> Result<Unit, ParseEnd>
     requires { length tokens.now < 2 ^ 32 }
-    ensures tree { IfOk result (λ unit. IsTree 64 (plain_tokens tokens.now) unit.items) }
-    ensures refused { IsRefused 64 (plain_tokens tokens.now) result }
+    ensures tree { IfOk result (λ unit. IsTree MOST_NESTING (plain_tokens tokens.now) unit.items) }
+    ensures refused { IsRefused MOST_NESTING (plain_tokens tokens.now) result }
 {
-    match items(alloc, MAX_NESTING, tokens) {
+    match items(alloc, MOST_NESTING, tokens) {
         Ok((items, [])) => Ok(Unit { items }),
         Ok((_, rest)) => Err(ParseEnd::Syntax {
             token: place(tokens, rest),

@@ -1,8 +1,8 @@
 -- What the functions that read expressions go by.
-use Rattle.std.proofs.Common.{◌≡◌, ◌+◌, ◌-◌, ◌<◌, ℕ, zero, suc, Bool, true, false, cond, List, [], ◌∷◌, Result, Ok, Err, refl, sym, ap, ◌∙◌, inl, inr, arith}
+use Rattle.std.proofs.Common.{◌≡◌, ◌-◌, ◌<◌, ℕ, Bool, true, false, cond, List, [], ◌∷◌, Ok, Err, refl, sym, ap, ◌∙◌, inl, inr, arith}
 use Rattle.std.specs.Prelude.{◌==◌}
-use Rattle.cl_rules.specs.Rules.{Syntax, TooDeep, renamed}
-use Rattle.cl_rules.specs.Syntax.{Rule, Token, Many, Symbol, ◌⨾◌}
+use Rattle.cl_rules.specs.Rules.{renamed}
+use Rattle.cl_rules.specs.Syntax.{Many, Symbol, ◌⨾◌}
 use Rattle.cl_rules.specs.Values.{values, before_rest}
 use Rattle.cl_rules.specs.Unroll.{Step, onwards}
 use Rattle.cl_rules.proofs.Unroll.{onwards_same, onwards_renamed, onwards_ok, symbol_unrolls, list_unrolls}
@@ -10,14 +10,12 @@ use Rattle.cl_ast.specs.declared.mark.Mark.TheVariants as marks
 use Rattle.cl_ast.specs.declared.word.Word.TheVariants as words
 use Rattle.cl_ast.specs.declared.tree.Expr.{Expr}
 use Rattle.cl_ast.specs.declared.tree.Expr.TheVariants as exprs
-use Rattle.cl_ast.specs.declared.tree.Link.{Link}
-use Rattle.cl_ast.specs.declared.tree.Formal.{roll-Formal}
 use Rattle.cl_ast.specs.Plain.{PlainToken}
 use Rattle.cl_ast.specs.Classes.{mark_class, word_classes}
 use Rattle.cl_ast.specs.Grammar.{mark}
 use Rattle.cl_ast.specs.Grammar as parts
 use Rattle.cl_ast.specs.Tables.{language, bounds, primary_firsts, expr_firsts}
-use Rattle.cl_ast.specs.Trees.{meaning, span_of, behind_marks, to_links, to_level, to_chain, to_literal, to_operation, to_text, to_place, to_call, to_field, to_unary, to_primary}
+use Rattle.cl_ast.specs.Trees.{meaning, span_of, behind_marks, to_links, to_level, to_chain, to_literal, to_operation, to_place, to_call, to_field, to_unary}
 use Rattle.cl_ast.proofs.Fits.{grammar_fits}
 use Rattle.cl_parse_expr.specs.declared.class.Level.{Level}
 use Rattle.cl_parse_expr.specs.declared.class.Level.TheVariants as levels

@@ -1,12 +1,9 @@
 -- One token and those behind it.
-use Rattle.std.proofs.Common.{◌≡◌, Bool, true, false, ℕ, List, [], ◌∷◌, Option, Some, None, cond, Result, Ok, Err, refl, sym, ap, ◌∙◌}
-use Rattle.cl_rules.specs.Rules.{Kind, Syntax, one, taken}
-use Rattle.cl_rules.specs.Syntax.{accept}
-use Rattle.cl_rules.specs.Unroll.{Step}
+use Rattle.std.proofs.Common.{◌≡◌, Bool, true, false, ℕ, List, [], ◌∷◌, Some, None, cond, Ok, Err, refl, sym, ap, ◌∙◌}
+use Rattle.cl_rules.specs.Rules.{Syntax, taken}
 use Rattle.cl_ast.specs.declared.token.Token.{Token}
 use Rattle.cl_ast.specs.Plain.{PlainToken}
 use Rattle.cl_ast.specs.Views.{plain_token}
-use Rattle.cl_ast.specs.Classes.{class_of}
 use Rattle.cl_parse_expr.specs.Steps.{plain_tokens, is_of, begins_of, token_of}
 
 pub begins_none : (cs : List ℕ) (ts : List Token) → ts ≡ [] → begins_of cs (plain_tokens ts) ≡ false

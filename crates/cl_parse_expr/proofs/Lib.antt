@@ -4,3 +4,4 @@ pub mod Loops
 pub mod Marks
 pub mod Spans
 pub mod Verdicts
+pub mod Words

@@ -1,7 +1,7 @@
 -- Loops that read lists.
-use Rattle.std.proofs.Common.{◌≡◌, ◌+◌, ◌<◌, ◌≤◌, ℕ, suc, Bool, true, false, cond, List, [], ◌∷◌, ◌++◌, length, Option, Some, None, Result, Ok, Err, refl, sym, ap, subst, ◌∙◌, append_assoc, arith}
+use Rattle.std.proofs.Common.{◌≡◌, ◌<◌, ◌≤◌, ℕ, Bool, true, false, cond, List, [], ◌∷◌, ◌++◌, length, Option, Some, None, Ok, Err, refl, sym, ap, ◌∙◌, append_assoc, arith}
 use Rattle.std.proofs.lemmas.List.{append-nil}
-use Rattle.cl_rules.specs.Rules.{Kind, Syntax, one, taken}
+use Rattle.cl_rules.specs.Rules.{Kind, one, taken}
 use Rattle.cl_rules.specs.Syntax.{Symbol, accept}
 use Rattle.cl_rules.specs.Unroll.{Step, onwards}
 use Rattle.cl_rules.proofs.Values.{values_rest}

@@ -1,5 +1,5 @@
 -- Tests of marks by their classes.
-use Rattle.std.proofs.Common.{◌≡◌, Bool, true, false, ℕ, refl, is_some}
+use Rattle.std.proofs.Common.{◌≡◌, refl, is_some}
 use Rattle.cl_rules.specs.Syntax.{has}
 use Rattle.cl_ast.specs.declared.mark.Mark.{Mark}
 use Rattle.cl_ast.specs.declared.mark.Mark.TheVariants as marks

@@ -1,10 +1,9 @@
 -- What a reading says in the terms of the grammar.
-use Rattle.std.proofs.Common.{◌≡◌, ◌+◌, ◌-◌, ◌≤◌, ℕ, List, ◌++◌, length, take, drop, map, Result, Ok, Err, refl, sym, ap, subst, ◌∙◌, append_assoc, length-append, arith}
+use Rattle.std.proofs.Common.{◌≡◌, ◌+◌, ◌-◌, ℕ, List, ◌++◌, length, take, drop, Ok, Err, refl, sym, ap, subst, ◌∙◌, append_assoc, length-append, arith}
 use Rattle.std.proofs.lemmas.List.{take-append-drop, drop-map}
 use Rattle.std.proofs.Math.Seq.{drop-append_seam}
-use Rattle.cl_rules.specs.Rules.{Kind, Syntax, TooDeep, Spells, Stops, renamed}
-use Rattle.cl_rules.specs.Syntax.{Symbol, Derivation, tokens, nesting}
-use Rattle.cl_rules.specs.Fit.{grammar}
+use Rattle.cl_rules.specs.Rules.{Kind, renamed}
+use Rattle.cl_rules.specs.Syntax.{Symbol, Derivation, tokens}
 use Rattle.cl_rules.specs.Values.{value, values}
 use Rattle.cl_rules.proofs.Laws.{renamed_ok, renamed_err}
 use Rattle.cl_rules.specs.Syntax.{reads}

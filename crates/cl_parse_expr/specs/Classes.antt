@@ -1,19 +1,20 @@
 -- The classes of tokens that are tested for, and the operators of the levels. (This project.)
-use Rattle.std.specs.Prelude.{ℕ, List, [], ◌∷◌, Option, Some, None}
+use Rattle.std.specs.Prelude.{ℕ, List, [], ◌∷◌, ◌++◌, Option, Some, None}
 use Rattle.cl_ast.specs.declared.word.Word.TheVariants as words
 use Rattle.cl_ast.specs.declared.mark.Mark.{Mark}
 use Rattle.cl_ast.specs.declared.mark.Mark.TheVariants as marks
 use Rattle.cl_ast.specs.declared.tree.Operator.{Operator}
 use Rattle.cl_ast.specs.declared.tree.Operator.TheVariants as operators
-use Rattle.cl_ast.specs.Classes.{mark_class, mark_classes, word_classes}
+use Rattle.cl_ast.specs.Classes.{word_class, mark_class, word_classes, mark_classes}
 use Rattle.cl_ast.specs.Grammar.{Part}
-use Rattle.cl_ast.specs.Tables.{primary_firsts, expr_firsts}
+use Rattle.cl_ast.specs.Tables.{firsts, primary_firsts, expr_firsts, simple_firsts, plain_firsts, type_firsts}
 use Rattle.cl_ast.specs.Grammar as parts
 use Rattle.cl_parse_expr.specs.declared.class.Level.{Level}
 use Rattle.cl_parse_expr.specs.declared.class.Level.TheVariants as levels
 use Rattle.cl_parse_expr.specs.declared.class.Class.{Class}
 use Rattle.cl_parse_expr.specs.declared.class.Class.TheVariants as classes
 
+-- the operator that a mark is at a level
 abbrev pub level_operator : Level → Mark → Option Operator
 level_operator levels.Product marks.Times = Some operators.Multiply
 level_operator levels.Product marks.Divide = Some operators.Divide
@@ -30,6 +31,7 @@ level_operator levels.Conjunction marks.And = Some operators.And
 level_operator levels.Expr marks.Or = Some operators.Or
 level_operator _ _ = None
 
+-- the classes of the operators of a level
 abbrev pub level_classes : Level → List ℕ
 level_classes levels.Product = mark_classes (marks.Times ∷ marks.Divide ∷ marks.Remainder ∷ [])
 level_classes levels.Sum = mark_classes (marks.Plus ∷ marks.Minus ∷ [])
@@ -56,16 +58,31 @@ operand_part levels.Equality = parts.order
 operand_part levels.Conjunction = parts.equality
 operand_part levels.Expr = parts.conjunction
 
+-- the classes, by number, that a class of tokens has
 abbrev pub classes_of : Class → List ℕ
 classes_of (classes.Mark mark) = mark_class mark ∷ []
+classes_of (classes.Word word) = word_class word ∷ []
 classes_of classes.Name = 0 ∷ []
 classes_of classes.Text = 4 ∷ []
 classes_of classes.Literal = 1 ∷ 2 ∷ 3 ∷ []
+classes_of classes.Size = 0 ∷ 1 ∷ 2 ∷ []
+classes_of classes.Define = 6 ∷ []
+classes_of classes.Type = type_firsts
+classes_of classes.Parameters = word_class words.Void ∷ type_firsts
+classes_of classes.Change = mark_classes (marks.Assign ∷ marks.PlusAssign ∷ marks.MinusAssign ∷ marks.TimesAssign ∷ [])
+classes_of classes.Step = mark_classes (marks.Increment ∷ marks.Decrement ∷ [])
+classes_of classes.Operation = word_classes (words.Out ∷ words.In ∷ words.Rd ∷ words.Inp ∷ words.Rdp ∷ words.Eval ∷ [])
 classes_of classes.Predicate = word_classes (words.Inp ∷ words.Rdp ∷ [])
+classes_of classes.Leave = word_classes (words.Break ∷ words.Continue ∷ [])
 classes_of classes.Prefix = mark_classes (marks.Minus ∷ marks.Not ∷ [])
 classes_of (classes.Operator level) = level_classes level
 classes_of classes.Primary = primary_firsts
 classes_of classes.Expr = expr_firsts
+classes_of classes.Simple = simple_firsts
+classes_of classes.Plain = plain_firsts
+classes_of classes.Inner = type_firsts ++ (mark_class marks.OpenBrace ∷ plain_firsts)
+classes_of classes.Given = firsts parts.given
+classes_of classes.Item = firsts parts.item
 
 -- the levels from those that bind closest
 abbrev pub level_number : Level → ℕ

@@ -1,8 +1,8 @@
 -- Parts of expressions that functions read by themselves. (This project.)
-use Rattle.std.specs.Prelude.{ℕ, ◌-◌, ◌==◌, List, [], ◌∷◌, if◌then◌else◌, Option, Some, None, Ok, Err}
+use Rattle.std.specs.Prelude.{ℕ, ◌-◌, ◌==◌, List, [], ◌∷◌, if◌then◌else◌, Ok, Err}
 use Rattle.std.proofs.Common.{inl, inr}
 use Rattle.cl_rules.specs.Rules.{Syntax, TooDeep, renamed}
-use Rattle.cl_rules.specs.Syntax.{Rule, Token, Both, Many, Symbol, ◌⨾◌}
+use Rattle.cl_rules.specs.Syntax.{Many, Symbol, ◌⨾◌}
 use Rattle.cl_rules.specs.Values.{values, before_rest}
 use Rattle.cl_rules.specs.Unroll.{Step, onwards}
 use Rattle.cl_ast.specs.declared.mark.Mark.TheVariants as marks
@@ -14,8 +14,7 @@ use Rattle.cl_ast.specs.Classes.{mark_class}
 use Rattle.cl_ast.specs.Grammar.{Part, Row, mark, mark_of}
 use Rattle.cl_ast.specs.Grammar as parts
 use Rattle.cl_ast.specs.Tables.{language, expr_firsts}
-use Rattle.cl_ast.specs.Tables.{primary_firsts}
-use Rattle.cl_ast.specs.Trees.{meaning, span_of, behind_marks, to_links, kind_operator, is_not, to_unary, to_primary, Index}
+use Rattle.cl_ast.specs.Trees.{meaning, behind_marks, to_links, kind_operator, to_unary, to_primary}
 use Rattle.cl_parse_expr.specs.declared.class.Level.{Level}
 use Rattle.cl_parse_expr.specs.declared.class.Level.TheVariants as levels
 use Rattle.cl_parse_expr.specs.Classes.{level_classes}
@@ -39,6 +38,7 @@ level_reading levels.Equality n ts = reading parts.equality n ts
 level_reading levels.Conjunction n ts = reading parts.conjunction n ts
 level_reading levels.Expr n ts = reading parts.expr n ts
 
+-- an operand of a level: an expression of the level that binds closer
 abbrev pub operand_reading : Level → ℕ → List PlainToken → Step PlainToken Expr
 operand_reading levels.Product n ts = reading parts.unary n ts
 operand_reading levels.Sum n ts = reading parts.product n ts
@@ -51,6 +51,7 @@ operand_reading levels.Expr n ts = reading parts.conjunction n ts
 abbrev pub to_link : PlainToken → Expr → Link
 to_link t x = roll-Link (record { operator = kind_operator t.kind; operand = x })
 
+-- one operator of a level, and the operand behind it
 unfoldable pub link_reading : Level → ℕ → List PlainToken → Step PlainToken Link
 link_reading l n ts = onwards (token_of (level_classes l) ts) (λ t us. onwards (operand_reading l n us) (λ x vs. Ok (to_link t x, vs)))
 
@@ -67,6 +68,7 @@ links_reading levels.Expr n ts = renamed to_links (values language meaning n (Ma
 unfoldable pub argument_reading : ℕ → List PlainToken → Step PlainToken Expr
 argument_reading n ts = onwards (token_of (mark_class marks.Comma ∷ []) ts) (λ t us. onwards (reading parts.expr n us) (λ x vs. Ok (x, vs)))
 
+-- any number of expressions, each behind a comma
 unfoldable pub arguments_reading : ℕ → List PlainToken → Step PlainToken (List Expr)
 arguments_reading n ts = renamed behind_marks (values language meaning n (Many (mark marks.Comma ⨾ Symbol parts.expr)) ts)
 
@@ -74,6 +76,7 @@ arguments_reading n ts = renamed behind_marks (values language meaning n (Many (
 unfoldable pub field_reading : ℕ → List PlainToken → Step PlainToken Field
 field_reading n ts = onwards (token_of (mark_class marks.Comma ∷ []) ts) (λ t us. onwards (reading parts.field n us) (λ x vs. Ok (x, vs)))
 
+-- any number of fields, each behind a comma
 unfoldable pub fields_reading : ℕ → List PlainToken → Step PlainToken (List Field)
 fields_reading n ts = renamed behind_marks (values language meaning n (Many (mark marks.Comma ⨾ Symbol parts.field)) ts)
 

@@ -1,9 +1,9 @@
 -- What functions that read give, beside the reading of plain tokens. (This project.)
-use Rattle.std.specs.Prelude.{◌≡◌, ℕ, Bool, false, ◌++◌, List, [], ◌∷◌, map, Result, Ok, Err}
+use Rattle.std.specs.Prelude.{◌≡◌, ℕ, Bool, false, List, map, Result, Ok, Err}
 use denote.Ref.{Bor}
-use Rattle.cl_rules.specs.Rules.{Kind, Syntax, TooDeep, begins, one}
-use Rattle.cl_rules.specs.Syntax.{Rule, Symbol, Many, has, accept}
-use Rattle.cl_rules.specs.Values.{Parts, values}
+use Rattle.cl_rules.specs.Rules.{Syntax, TooDeep, begins, one}
+use Rattle.cl_rules.specs.Syntax.{Symbol, has, accept}
+use Rattle.cl_rules.specs.Values.{values}
 use Rattle.cl_rules.specs.Unroll.{Step}
 use Rattle.cl_ast.specs.declared.token.Token.{Token}
 use Rattle.cl_ast.specs.Plain.{PlainToken}

@@ -6,12 +6,11 @@ mod expr;
 mod failure;
 mod nodes;
 mod public;
-#[cfg(test)]
-mod tests;
 mod tokens;
 
-pub use class::Level;
+pub use class::{Class, Level};
 pub use expr::{arguments, fields, index, level, place};
 pub use failure::Failure;
 pub use nodes::{literal, name, span, text, verb};
-pub use public::{MAX_NESTING, expression};
+pub use public::expression;
+pub use tokens::{begins, take};

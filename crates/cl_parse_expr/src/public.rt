@@ -1,3 +1,4 @@
+ghost use Rattle.cl_ground.specs.declared.limits.TheConstants.{MOST_NESTING};
 ghost use Rattle.std.specs.Prelude.{ℕ, ◌≡◌, ◌-◌, ◌<◌, ◌^◌, drop, length, IfOk};
 ghost use Rattle.cl_parse_expr.specs.Steps.{plain_tokens};
 ghost use Rattle.cl_parse_expr.specs.Expression.{IsRead, IsRefused};
@@ -6,11 +7,8 @@ use crate::Failure;
 use crate::class::Level;
 use crate::expr::level;
 use cl_ast::{Expr, ParseEnd, Token};
+use cl_ground::MOST_NESTING;
 use std::alloc::Global;
-
-/// No counted part of a source stands inside more than 63 others: brackets, prefix operators and statements
-/// of other statements.
-pub const MAX_NESTING: u8 = 64;
 
 /// The tokens from this place on; none from the end on.
 fn from(tokens: &[Token], at: usize) -> &[Token]
@@ -41,13 +39,13 @@ pub fn expression(
     depth: u8,
 ) -> Result<(Expr, usize), ParseEnd>
     requires { length tokens.now < 2 ^ 32 }
-    ensures tree { IfOk result (λ (found, end). IsRead (64 - depth) (drop at (plain_tokens tokens.now)) found (drop end (plain_tokens tokens.now))) }
-    ensures refused { IsRefused (64 - depth) at (plain_tokens tokens.now) result }
+    ensures tree { IfOk result (λ (found, end). IsRead (MOST_NESTING - depth) (drop at (plain_tokens tokens.now)) found (drop end (plain_tokens tokens.now))) }
+    ensures refused { IsRefused (MOST_NESTING - depth) at (plain_tokens tokens.now) result }
 {
     match level(
         alloc,
         Level::Expr,
-        MAX_NESTING.saturating_sub(depth),
+        MOST_NESTING.saturating_sub(depth),
         from(tokens, at),
     ) {
         Ok((found, rest)) => Ok((found, tokens.len().saturating_sub(rest.len()))),

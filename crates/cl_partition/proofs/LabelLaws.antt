@@ -8,7 +8,7 @@ use Rattle.cl_sig.specs.Chains.{neighbours, SameSet, Leads, may_pair, may_pair_a
 use Rattle.cl_sig.specs.Signatures.{PlainSignature}
 use Rattle.cl_sig.specs.Views.{plain_signature}
 use Rattle.cl_sig.specs.declared.signature.Signature.{Signature}
-use Rattle.cl_sig.proofs.ChainLaws.{same_refl, same_sym, same_trans, same_step, neighbours_exist, neighbours-comm}
+use Rattle.cl_sig.proofs.ChainLaws.{same_sym, same_trans, same_step, neighbours_exist, neighbours-comm}
 use Rattle.cl_partition.specs.Labels.{plain_sites, label, relabelled, joined, AreLow, AreLabels, Coarser, JoinedWith, JoinedBefore}
 
 -- a label becomes the other one or stays
@@ -111,6 +111,20 @@ joined-below x y ls h = rw (lt-ltb x y h) refl
 pub joined-above : (x y : ℕ) (ls : List ℕ) → y ≤ x → joined x y ls ≡ map (relabelled x y) ls
 joined-above x y ls h = rw (le-ltb x y h) refl
 
+-- a label that becomes itself stays, and so do all labels
+relabelled-self : (x l : ℕ) → relabelled x x l ≡ l
+relabelled-self x l = elim (relabelled_cases x x l) [ inl y ↦ y.1 ∙ sym y.0 | inr n ↦ n.1 ]
+
+all_relabelled-self : (x : ℕ) (ls : List ℕ) → map (relabelled x x) ls ≡ ls
+all_relabelled-self x [] = refl
+all_relabelled-self x (l ∷ ls) =
+    ap (λ m. m ∷ map (relabelled x x) ls) (relabelled-self x l) ∙ ap (λ ms. l ∷ ms) (all_relabelled-self x ls)
+
+-- joining two sites of one label changes nothing
+pub joined_same : (x y : ℕ) (ls : List ℕ) → x ≡ y → joined x y ls ≡ ls
+joined_same x y ls e =
+    joined-above x y ls (omega (arith, e)) ∙ subst (λ z. map (relabelled x z) ls ≡ ls) e (all_relabelled-self x ls)
+
 -- labels after two neighbours are joined: labels still, as coarse, and the neighbours have one
 pub record Joins (sites : List PlainSignature) (old new : List ℕ) (a b : ℕ) : Type 0 where
   pub labels : AreLabels sites new
@@ -150,18 +164,6 @@ coarser-trans ls ms ns one two =
     record {
       all = two.all ∙ one.all;
       stay = λ a b ha hb e. two.stay a b (omega (arith, one.all)) (omega (arith, one.all)) (one.stay a b ha hb e);
-    }
-
--- each site for itself
-pub labels-own : (sites : List PlainSignature) (ls : List ℕ) → length ls ≡ length sites → ((k : ℕ) → k < length ls → label ls k ≡ k) → AreLabels sites ls
-labels-own sites ls count own =
-    record {
-      all = count;
-      low = record {
-        low = λ k h. omega (arith, own k h);
-        least = λ k h. ap (label ls) (own k h);
-      };
-      chains = λ a b ha hb e. same_refl sites a b (sym (own a ha) ∙ e ∙ own b hb);
     }
 
 -- the signatures of the program's sites
@@ -210,17 +212,6 @@ looked-far sites old ls new site other hs ho far is_new h =
       coarser = h.coarser;
       joined = joined_with-more sites ls ls site other within before (coarser-refl ls) (λ near. absurd (true≢false (sym near ∙ far))) (omega arith) h.joined;
     })
-
--- one more site with its earlier neighbours
-pub joined_before-more : (sites : List PlainSignature) (old new : List ℕ) (count : ℕ) → count < length old → Coarser old new → JoinedWith sites new count count → JoinedBefore sites old count → JoinedBefore sites new (count + 1)
-joined_before-more sites old new count hc coarser this before =
-    record {
-      one = λ a b ha hb n.
-          elim (cases_eq a count) [
-            | inl e ↦ subst (λ z. label new z ≡ label new b) (sym e) (this.one b (omega arith) (subst (λ z. neighbours sites z b ≡ true) e n))
-            | inr d ↦ coarser.stay a b (omega (arith, d)) (omega (arith, d)) (before.one a b (omega (arith, d)) hb n)
-          ];
-    }
 
 -- at the end, each chain leads to a site of the same label
 pub one_label : (sites : List PlainSignature) (ls : List ℕ) (a b : ℕ) (path : List ℕ) → length ls ≡ length sites → JoinedBefore sites ls (length sites) → a < length sites → Leads sites a path b → label ls a ≡ label ls b

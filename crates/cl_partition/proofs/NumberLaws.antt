@@ -16,9 +16,6 @@ pub record Numbered (ls numbers : List ℕ) (count : ℕ) : Type 0 where
   pub all : length numbers ≡ count
   pub same : (a b : ℕ) → a < count → b < count → (label numbers a ≡ label numbers b) ↔ (label ls a ≡ label ls b)
 
-pub numbered-none : (ls : List ℕ) → Numbered ls [] 0
-numbered-none ls = record { all = refl; same = λ a b ha hb. absurd (omega arith) }
-
 -- each number so far is below the next new one
 pub number_low : (numbers : List ℕ) (k : ℕ) → in_order 0 numbers ≡ true → k < length numbers → label numbers k < count_from 0 numbers
 number_low numbers k order h = number_below 0 numbers k (label numbers k) order (slice_get-get_or numbers k 0 h)

@@ -6,6 +6,7 @@ use Rattle.cl_sig.specs.Signatures.{PlainSignature}
 use Rattle.cl_sig.specs.Views.{plain_signature}
 use Rattle.cl_sig.specs.declared.signature.Signature.{Signature}
 
+-- the signatures of sites as plain data
 abbrev pub plain_sites : List Signature → List PlainSignature
 plain_sites sites = map plain_signature sites
 

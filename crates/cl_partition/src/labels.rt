@@ -1,11 +1,11 @@
 ghost use Rattle.std.specs.Prelude.{◌≡◌, ◌<◌, ◌≤◌, length, map, slice_index, EachIndex};
-ghost use Rattle.cl_value.specs.Room.{Room};
+ghost use Rattle.cl_ground.specs.Room.{Room};
 ghost use Rattle.cl_sig.specs.Chains.{may_pair};
 ghost use Rattle.cl_sig.specs.Views.{plain_signature};
 ghost use Rattle.cl_partition.specs.Labels.{relabelled, joined, plain_sites, AreLabels, Coarser, JoinedWith, JoinedBefore};
 
+use cl_ground::Items;
 use cl_sig::{Signature, may_match};
-use cl_value::Items;
 
 // Whether two sites are a producer and a consumer, in either order, that may match.
 fn may_pair(a: &Signature, b: &Signature) -> bool
@@ -29,7 +29,9 @@ fn relabel(labels: &mut [usize], from: usize, to: usize)
     }
 }
 
-// Joins what two sites are joined with, under the lesser of their labels.
+// Joins what two sites are joined with, under the lesser of their labels. Nothing is done where they are
+// joined already.
+#[tactic(auto, using(crate::proofs::LabelLaws::joined_same))]
 fn join(labels: &mut [usize], a: usize, b: usize)
     requires a { a < length labels.old }
     requires b { b < length labels.old }
@@ -37,6 +39,9 @@ fn join(labels: &mut [usize], a: usize, b: usize)
 {
     let first = labels[a];
     let second = labels[b];
+    if first == second {
+        return;
+    }
     if first < second {
         relabel(labels, second, first);
     } else {

@@ -7,7 +7,5 @@
 
 mod labels;
 mod numbering;
-#[cfg(test)]
-mod tests;
 
 pub use numbering::{partition, sets_never_meet};

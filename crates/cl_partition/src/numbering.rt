@@ -1,13 +1,14 @@
+ghost use Rattle.cl_ground.specs.declared.limits.TheConstants.{MOST_SITES};
 ghost use Rattle.std.specs.Prelude.{◌≡◌, ◌<◌, ◌≤◌, length, slice_index, EachIndex, IfOk, IsTrue};
-ghost use Rattle.cl_value.specs.Room.{Room};
+ghost use Rattle.cl_ground.specs.Room.{Room};
 ghost use Rattle.cl_sig.specs.Numbers.{in_order};
 ghost use Rattle.cl_sig.specs.Partitions.{IsPartition};
 ghost use Rattle.cl_partition.specs.Apart.{NeverMeet};
 ghost use Rattle.cl_partition.specs.Labels.{plain_sites, AreLow, AreLabels, JoinedBefore, SameNumbers};
 
 use crate::labels::label_all;
+use cl_ground::{Items, NoMemory};
 use cl_sig::{Sets, Signature};
-use cl_value::{Items, NoMemory};
 use std::alloc::{AllocError, Global};
 
 fn labels_of(alloc: Global, sites: &Items<Signature>) -> Result<Vec<usize>, NoMemory>
@@ -25,7 +26,7 @@ fn labels_of(alloc: Global, sites: &Items<Signature>) -> Result<Vec<usize>, NoMe
 
 // Numbers the labels by their least sites.
 fn numbered(alloc: Global, labels: &[usize]) -> Result<Sets, NoMemory>
-    requires few { length labels.now ≤ 1024 }
+    requires few { length labels.now ≤ MOST_SITES }
     requires low { AreLow labels.now }
     ensures same { IfOk result (SameNumbers labels.now) }
     ensures order { IfOk result (λ sets. IsTrue (in_order 0 sets)) }
@@ -52,7 +53,7 @@ fn numbered(alloc: Global, labels: &[usize]) -> Result<Sets, NoMemory>
 /// It asks each pair of sites once whether it may match. `NoMemory` comes where the allocator refused room
 /// for the numbers.
 pub fn partition(alloc: Global, sites: &Items<Signature>) -> Result<Sets, NoMemory>
-    requires few { length sites.now.items ≤ 1024 }
+    requires few { length sites.now.items ≤ MOST_SITES }
     ensures chains { IfOk result (IsPartition (plain_sites sites.now.items)) }
 {
     let labels = labels_of(alloc, sites)?;

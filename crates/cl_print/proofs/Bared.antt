@@ -8,12 +8,12 @@ use Rattle.cl_ast.specs.declared.tree.Expr.TheOpen.{Expr-F}
 use Rattle.cl_ast.specs.declared.tree.Chain.{roll-Chain}
 use Rattle.cl_ast.specs.declared.tree.Link.{Link, roll-Link}
 use Rattle.cl_ast.specs.declared.tree.Prefix.{roll-Prefix}
-use Rattle.cl_print.specs.Folds.{fold_expr}
+use Rattle.cl_ast.specs.Folds.{fold_expr}
 use Rattle.cl_print.specs.Expressions.{Said, Joined, mark, prefixed, operand, links, chain_rank, expr_said, chain_said, link_joined, prefix_kinds}
 use Rattle.cl_print.specs.Expressions as written
 use Rattle.cl_print.specs.Bare.{nowhere, bare_expr, steps}
 use Rattle.cl_print.specs.Seen.{bare_link}
-use Rattle.cl_print.proofs.Opens as opens
+use Rattle.cl_ast.proofs.Opens as opens
 use Rattle.cl_print.proofs.Equations.{said_chain, said_negate, said_not, chain_of, prefix_is}
 use Rattle.cl_ast.specs.declared.mark.Mark.TheVariants as marks
 

@@ -58,9 +58,6 @@ listed_or_none_alike one (inr x) (inl y) a = absurd a
 abbrev IndexAlike : Index ⊎ Unit {0} → Index ⊎ Unit {0} → Type 0
 IndexAlike x y = either_alike (λ p q. SameExpr p.0 q.0) (λ p q. Unit {0}) x y
 
-abbrev made_name : PlainKind → Name
-made_name k = record { bytes = kind_bytes k; span = nowhere }
-
 -- a place by its name and index
 pub place_alike : (t u : PlainToken) (n m : Name) (i j : Option Expr) (a b : Span) → n.bytes ≡ m.bytes → option_map bare_expr i ≡ option_map bare_expr j → option_map expr_said i ≡ option_map expr_said j →
     Tells bare_place place_kinds (roll-Place (record { name = n; index = i; span = a })) (roll-Place (record { name = m; index = j; span = b }))

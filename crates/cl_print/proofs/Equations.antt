@@ -1,8 +1,6 @@
 -- What is written of each form of an expression, by what is written of its parts.
-use Rattle.std.proofs.Common.{◌≡◌, List, [], ◌∷◌, ◌++◌, map, Option, Some, None, option_map, refl, sym, ap, ◌∙◌}
+use Rattle.std.proofs.Common.{◌≡◌, List, [], ◌∷◌, ◌++◌, map, option_map, refl, ap}
 use Rattle.cl_ast.specs.declared.mark.Mark.TheVariants as marks
-use Rattle.cl_ast.specs.declared.span.Span.{Span}
-use Rattle.cl_ast.specs.declared.tree.Name.{Name as Named}
 use Rattle.cl_ast.specs.declared.tree.Literal.{Literal}
 use Rattle.cl_ast.specs.declared.tree.Text.{Text}
 use Rattle.cl_ast.specs.declared.tree.Expr.{Expr}
@@ -16,52 +14,46 @@ use Rattle.cl_ast.specs.declared.tree.Link.{Link}
 use Rattle.cl_ast.specs.declared.tree.Operation.{Operation}
 use Rattle.cl_ast.specs.declared.tree.Place.{Place}
 use Rattle.cl_ast.specs.declared.tree.Prefix.{Prefix}
-use Rattle.cl_ast.specs.declared.tree.Expr.TheOpen.{Expr-F, Field-F}
 use Rattle.cl_ast.specs.Plain.{Name, Str}
-use Rattle.cl_print.specs.Folds.{fold_expr, fold_field}
 use Rattle.cl_print.specs.Spelling.{one}
 use Rattle.cl_print.specs.Expressions.{Said, Joined, mark, word, constant_kind, verb_word, operator_rank, operand, links, chain_rank, in_brackets, listed, all_kinds, indexed, close, prefixed, steps, expr_said, field_kinds, call_kinds, chain_said, formal_kinds, link_joined, operation_kinds, place_kinds, prefix_kinds}
-use Rattle.cl_print.proofs.Opens as opens
+use Rattle.cl_ast.proofs.Opens as opens
 
 -- ---- expressions
 
 pub said_literal : (l : Literal) → expr_said (exprs.Literal l) ≡ close (one (constant_kind l.value))
 unfolding expr_said place_kinds call_kinds operation_kinds chain_said prefix_kinds
-said_literal l = ap (fold_expr steps) (sym (exprs.rolls-Literal l)) ∙ opens.expr_rolls steps (Expr-F.Literal l)
+said_literal l = opens.expr_literal steps l
 
 pub said_place : (p : Place) → expr_said (exprs.Place p) ≡ close (place_kinds p)
 unfolding expr_said place_kinds call_kinds operation_kinds chain_said prefix_kinds
-said_place p = ap (fold_expr steps) (sym (exprs.rolls-Place p)) ∙ opens.expr_rolls steps (Expr-F.Place p)
+said_place p = opens.expr_place steps p
 
 pub said_call : (c : Call) → expr_said (exprs.Call c) ≡ close (call_kinds c)
 unfolding expr_said place_kinds call_kinds operation_kinds chain_said prefix_kinds
-said_call c = ap (fold_expr steps) (sym (exprs.rolls-Call c)) ∙ opens.expr_rolls steps (Expr-F.Call c)
+said_call c = opens.expr_call steps c
 
 pub said_operation : (o : Operation) → expr_said (exprs.Operation o) ≡ close (operation_kinds o)
 unfolding expr_said place_kinds call_kinds operation_kinds chain_said prefix_kinds
-said_operation o = ap (fold_expr steps) (sym (exprs.rolls-Operation o)) ∙ opens.expr_rolls steps (Expr-F.Operation o)
+said_operation o = opens.expr_operation steps o
 
 pub said_chain : (c : Chain) → expr_said (exprs.Chain c) ≡ chain_said c
 unfolding expr_said place_kinds call_kinds operation_kinds chain_said prefix_kinds
-said_chain c = ap (fold_expr steps) (sym (exprs.rolls-Chain c)) ∙ opens.expr_rolls steps (Expr-F.Chain c)
+said_chain c = opens.expr_chain steps c
 
 pub said_negate : (p : Prefix) → expr_said (exprs.Negate p) ≡ prefixed marks.Minus (prefix_kinds p)
 unfolding expr_said place_kinds call_kinds operation_kinds chain_said prefix_kinds
-said_negate p = ap (fold_expr steps) (sym (exprs.rolls-Negate p)) ∙ opens.expr_rolls steps (Expr-F.Negate p)
+said_negate p = opens.expr_negate steps p
 
 pub said_not : (p : Prefix) → expr_said (exprs.Not p) ≡ prefixed marks.Not (prefix_kinds p)
 unfolding expr_said place_kinds call_kinds operation_kinds chain_said prefix_kinds
-said_not p = ap (fold_expr steps) (sym (exprs.rolls-Not p)) ∙ opens.expr_rolls steps (Expr-F.Not p)
+said_not p = opens.expr_not steps p
 
 -- ---- the parts
 
-index_inside : (name : Named) (span : Span) (i : Option Expr) → (opens.inside_place steps (record { name = name; index = i; span = span })).index ≡ option_map (fold_expr steps) i
-index_inside name span None = refl
-index_inside name span (Some x) = refl
-
 pub place_is : (p : Place) → place_kinds p ≡ one (Name p.name.bytes) ++ indexed (option_map expr_said p.index)
 unfolding place_kinds expr_said
-place_is p = opens.place_opens steps p ∙ ap (λ i. one (Name p.name.bytes) ++ indexed i) (index_inside p.name p.span p.index)
+place_is p = opens.place_opens steps p
 
 pub call_is : (c : Call) → call_kinds c ≡ one (Name c.name.bytes) ++ in_brackets (listed (all_kinds (map expr_said c.arguments)))
 unfolding call_kinds expr_said
@@ -94,15 +86,15 @@ formal_is f = opens.formal_opens steps f
 
 pub field_text : (t : Text) → field_kinds (field_forms.Text t) ≡ one (Str t.bytes)
 unfolding field_kinds formal_kinds expr_said
-field_text t = ap (fold_field steps) (sym (field_forms.rolls-Text t)) ∙ opens.field_rolls steps (Field-F.Text t)
+field_text t = opens.field_text steps t
 
 pub field_formal : (f : Formal) → field_kinds (field_forms.Formal f) ≡ formal_kinds f
 unfolding field_kinds formal_kinds expr_said
-field_formal f = ap (fold_field steps) (sym (field_forms.rolls-Formal f)) ∙ opens.field_rolls steps (Field-F.Formal f)
+field_formal f = opens.field_formal steps f
 
 pub field_plain : (x : Expr) → field_kinds (field_forms.Plain x) ≡ (expr_said x).kinds
 unfolding field_kinds formal_kinds expr_said
-field_plain x = ap (fold_field steps) (sym (field_forms.rolls-Plain x)) ∙ opens.field_rolls steps (Field-F.Plain x)
+field_plain x = opens.field_plain steps x
 
 -- ---- ranks
 

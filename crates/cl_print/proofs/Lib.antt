@@ -1,4 +1,3 @@
-pub mod Opens
 pub mod Lines
 pub mod Words
 pub mod Equations

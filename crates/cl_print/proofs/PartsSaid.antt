@@ -55,8 +55,3 @@ unfolding one
 field_are ts (inl t) = field_text (to_text t)
 field_are ts (inr (inl x)) = field_formal (roll-Formal (record { target = x.1; span = span_of ts })) ∙ formal_is (roll-Formal (record { target = x.1; span = span_of ts }))
 field_are ts (inr (inr x)) = field_plain x
-
--- a call and a place, by their parts
-pub call_are : (ts : List PlainToken) (t : PlainToken) (xs : List Expr) → one (plain.Name (token_bytes t)) ++ part_said parts.arguments xs ≡ plain.Name (token_bytes t) ∷ part_said parts.arguments xs
-unfolding one
-call_are ts t xs = refl

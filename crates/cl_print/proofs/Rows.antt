@@ -22,7 +22,7 @@ use Rattle.cl_ast.specs.declared.statement.Stmt.TheViews.{roll-Block, roll-If, r
 use Rattle.cl_ast.specs.declared.statement.Change.TheVariants as changes
 use Rattle.cl_ast.specs.declared.statement.Item.{Item}
 use Rattle.cl_ast.specs.declared.statement.Item.TheVariants as items
-use Rattle.cl_print.specs.Folds.{fold_expr, fold_field, fold_operation, fold_place, fold_stmt, fold_block}
+use Rattle.cl_ast.specs.Folds.{fold_expr, fold_field, fold_operation, fold_place, fold_stmt, fold_block}
 use Rattle.cl_print.specs.Spelling.{word_bytes, mark_bytes, spelling, text_of, line, one}
 use Rattle.cl_print.specs.Expressions.{expr_said, field_kinds, operation_kinds, place_kinds}
 use Rattle.cl_print.specs.Statements.{expr_kinds, assign_kinds, stmt_line, block_kinds}

@@ -1,57 +1,55 @@
 -- What is written of each form of a statement, by what is written of its parts.
-use Rattle.std.proofs.Common.{◌≡◌, ℕ, true, false, List, [], ◌++◌, map, Option, Some, None, option_map, refl, sym, ap, ◌∙◌}
+use Rattle.std.proofs.Common.{◌≡◌, ℕ, true, false, List, [], ◌++◌, map, option_map, sym, ap, ◌∙◌}
 use Rattle.cl_ast.specs.declared.span.Span.{Span}
 use Rattle.cl_ast.specs.declared.word.Word.TheVariants as words
 use Rattle.cl_ast.specs.declared.mark.Mark.TheVariants as marks
-use Rattle.cl_ast.specs.declared.tree.Expr.{Expr}
 use Rattle.cl_ast.specs.declared.tree.Call.{Call}
 use Rattle.cl_ast.specs.declared.tree.Operation.{Operation}
-use Rattle.cl_ast.specs.declared.statement.Stmt.{Stmt}
 use Rattle.cl_ast.specs.declared.statement.Stmt.TheVariants as stmts
 use Rattle.cl_ast.specs.declared.statement.Stmt.TheOpen.{Stmt-F}
 use Rattle.cl_ast.specs.declared.statement.Block.{Block}
 use Rattle.cl_ast.specs.declared.statement.Do.{Do}
-use Rattle.cl_ast.specs.declared.statement.For.{For, out-For}
+use Rattle.cl_ast.specs.declared.statement.For.{For}
 use Rattle.cl_ast.specs.declared.statement.If.{If}
 use Rattle.cl_ast.specs.declared.statement.While.{While}
 use Rattle.cl_ast.specs.declared.statement.Variables.{Variables}
 use Rattle.cl_ast.specs.declared.statement.Assign.{Assign}
 use Rattle.cl_ast.specs.declared.statement.Print.{Print}
 use Rattle.cl_ast.specs.declared.statement.Return.{Return}
-use Rattle.cl_print.specs.Folds.{fold_stmt}
+use Rattle.cl_ast.specs.Folds.{fold_stmt}
 use Rattle.cl_print.specs.Spelling.{after}
 use Rattle.cl_print.specs.Expressions.{mark, word, call_kinds, operation_kinds}
 use Rattle.cl_print.specs.Statements.{Line, closed, condition, maybe_expr, otherwise, in_order, head, variables_kinds, assign_kinds, print_kinds, steps, stmt_line, block_kinds, do_kinds, for_kinds, if_kinds, while_kinds}
-use Rattle.cl_print.proofs.Opens as opens
+use Rattle.cl_ast.proofs.Opens as opens
 use Rattle.cl_print.proofs.Lines.{after_both, after_none}
 
 pub line_block : (b : Block) → stmt_line (stmts.Block b) ≡ record { kinds = block_kinds b; ends = false }
 unfolding stmt_line block_kinds do_kinds for_kinds if_kinds while_kinds
-line_block b = ap (fold_stmt steps) (sym (stmts.rolls-Block b)) ∙ opens.stmt_rolls steps (Stmt-F.Block b)
+line_block b = opens.stmt_block steps b
 
 pub line_empty : (s : Span) → stmt_line (stmts.Empty s) ≡ record { kinds = []; ends = true }
 unfolding stmt_line block_kinds do_kinds for_kinds if_kinds while_kinds
-line_empty s = ap (fold_stmt steps) (sym (stmts.rolls-Empty s)) ∙ opens.stmt_rolls steps (Stmt-F.Empty s)
+line_empty s = opens.stmt_empty steps s
 
 pub line_variables : (v : Variables) → stmt_line (stmts.Variables v) ≡ record { kinds = variables_kinds v; ends = true }
 unfolding stmt_line block_kinds do_kinds for_kinds if_kinds while_kinds
-line_variables v = ap (fold_stmt steps) (sym (stmts.rolls-Variables v)) ∙ opens.stmt_rolls steps (Stmt-F.Variables v)
+line_variables v = opens.stmt_variables steps v
 
 pub line_assign : (a : Assign) → stmt_line (stmts.Assign a) ≡ record { kinds = assign_kinds a; ends = true }
 unfolding stmt_line block_kinds do_kinds for_kinds if_kinds while_kinds
-line_assign a = ap (fold_stmt steps) (sym (stmts.rolls-Assign a)) ∙ opens.stmt_rolls steps (Stmt-F.Assign a)
+line_assign a = opens.stmt_assign steps a
 
 pub line_call : (c : Call) → stmt_line (stmts.Call c) ≡ record { kinds = call_kinds c; ends = true }
 unfolding stmt_line block_kinds do_kinds for_kinds if_kinds while_kinds
-line_call c = ap (fold_stmt steps) (sym (stmts.rolls-Call c)) ∙ opens.stmt_rolls steps (Stmt-F.Call c)
+line_call c = opens.stmt_call steps c
 
 pub line_operation : (o : Operation) → stmt_line (stmts.Operation o) ≡ record { kinds = operation_kinds o; ends = true }
 unfolding stmt_line block_kinds do_kinds for_kinds if_kinds while_kinds
-line_operation o = ap (fold_stmt steps) (sym (stmts.rolls-Operation o)) ∙ opens.stmt_rolls steps (Stmt-F.Operation o)
+line_operation o = opens.stmt_operation steps o
 
 pub line_print : (p : Print) → stmt_line (stmts.Print p) ≡ record { kinds = print_kinds p; ends = true }
 unfolding stmt_line block_kinds do_kinds for_kinds if_kinds while_kinds
-line_print p = ap (fold_stmt steps) (sym (stmts.rolls-Print p)) ∙ opens.stmt_rolls steps (Stmt-F.Print p)
+line_print p = opens.stmt_print steps p
 
 pub line_if : (i : If) → stmt_line (stmts.If i) ≡ record { kinds = if_kinds i; ends = false }
 unfolding stmt_line block_kinds do_kinds for_kinds if_kinds while_kinds
@@ -71,15 +69,15 @@ line_for f = ap (fold_stmt steps) (sym (stmts.rolls-For f)) ∙ opens.stmt_rolls
 
 pub line_break : (s : Span) → stmt_line (stmts.Break s) ≡ record { kinds = word words.Break; ends = true }
 unfolding stmt_line block_kinds do_kinds for_kinds if_kinds while_kinds
-line_break s = ap (fold_stmt steps) (sym (stmts.rolls-Break s)) ∙ opens.stmt_rolls steps (Stmt-F.Break s)
+line_break s = opens.stmt_break steps s
 
 pub line_continue : (s : Span) → stmt_line (stmts.Continue s) ≡ record { kinds = word words.Continue; ends = true }
 unfolding stmt_line block_kinds do_kinds for_kinds if_kinds while_kinds
-line_continue s = ap (fold_stmt steps) (sym (stmts.rolls-Continue s)) ∙ opens.stmt_rolls steps (Stmt-F.Continue s)
+line_continue s = opens.stmt_continue steps s
 
 pub line_return : (r : Return) → stmt_line (stmts.Return r) ≡ record { kinds = word words.Return ++ maybe_expr r.value; ends = true }
 unfolding stmt_line block_kinds do_kinds for_kinds if_kinds while_kinds
-line_return r = ap (fold_stmt steps) (sym (stmts.rolls-Return r)) ∙ opens.stmt_rolls steps (Stmt-F.Return r)
+line_return r = opens.stmt_return steps r
 
 pub block_is : (b : Block) → block_kinds b ≡ mark marks.OpenBrace ++ (in_order (map stmt_line b.statements) ++ mark marks.CloseBrace)
 unfolding stmt_line block_kinds
@@ -93,29 +91,13 @@ pub do_is : (d : Do) → do_kinds d ≡ word words.Do ++ (closed (stmt_line d.bo
 unfolding stmt_line do_kinds
 do_is d = opens.do_opens steps d
 
-no_inside : (test : Expr) (body : Stmt) (span : Span) (i : Option Stmt) → (opens.inside_if steps (record { test = test; yes = body; no = i; span = span })).no ≡ option_map (fold_stmt steps) i
-no_inside test body span None = refl
-no_inside test body span (Some x) = refl
-
 pub if_is : (i : If) → if_kinds i ≡ word words.If ++ (condition i.test ++ (closed (stmt_line i.yes) ++ otherwise (option_map stmt_line i.no)))
 unfolding stmt_line if_kinds
-if_is i = opens.if_opens steps i ∙ ap (λ n. word words.If ++ (condition i.test ++ (closed (fold_stmt steps i.yes) ++ otherwise n))) (no_inside i.test i.yes i.span i.no)
-
-first_inside : (first : Option Stmt) (test : Option Expr) (step : Option Stmt) (body : Stmt) (span : Span) →
-    (opens.inside_for steps (record { first = first; test = test; step = step; body = body; span = span })).first ≡ option_map (fold_stmt steps) first
-first_inside None test step body span = refl
-first_inside (Some x) test step body span = refl
-
-step_inside : (first : Option Stmt) (test : Option Expr) (step : Option Stmt) (body : Stmt) (span : Span) →
-    (opens.inside_for steps (record { first = first; test = test; step = step; body = body; span = span })).step ≡ option_map (fold_stmt steps) step
-step_inside first test None body span = refl
-step_inside first test (Some x) body span = refl
+if_is i = opens.if_opens steps i
 
 pub for_is : (f : For) → for_kinds f ≡ word words.For ++ (head (option_map stmt_line f.first) f.test (option_map stmt_line f.step) ++ closed (stmt_line f.body))
 unfolding stmt_line for_kinds
 for_is f = opens.for_opens steps f
-    ∙ ap (λ x. word words.For ++ (head x f.test (opens.inside_for steps (out-For f)).step ++ closed (fold_stmt steps f.body))) (first_inside f.first f.test f.step f.body f.span)
-    ∙ ap (λ x. word words.For ++ (head (option_map (fold_stmt steps) f.first) f.test x ++ closed (fold_stmt steps f.body))) (step_inside f.first f.test f.step f.body f.span)
 
 -- a statement with its `;`, and one that has none
 pub after_closed : (bytes : List ℕ) (s : Line) → s.ends ≡ true → after bytes (closed s) ≡ after (after bytes s.kinds) (mark marks.Semicolon)

@@ -41,8 +41,9 @@ use Rattle.cl_ast.specs.declared.statement.Parameter.{Parameter}
 use Rattle.cl_ast.specs.declared.statement.Function.{Function}
 use Rattle.cl_ast.specs.declared.statement.Item.{Item}
 use Rattle.cl_ast.specs.declared.statement.Item.TheVariants as items
-use Rattle.cl_print.specs.Folds.{ExprSteps, fold_expr, fold_field, fold_call, fold_operation, fold_place, StmtSteps, fold_stmt, fold_block}
+use Rattle.cl_ast.specs.Folds.{ExprSteps, fold_expr, fold_field, fold_call, fold_operation, fold_place, StmtSteps, fold_stmt, fold_block}
 
+-- the span that all parts of a bare tree have
 abbrev pub nowhere : Span
 nowhere = record { start = 0; end = 0 }
 
@@ -71,6 +72,7 @@ field_step (Field-F.Text t) = field_forms.Text (bare_text t)
 field_step (Field-F.Formal f) = field_forms.Formal f
 field_step (Field-F.Plain x) = field_forms.Plain x
 
+-- each part of an expression with bare parts, and without its own span
 abbrev pub steps : ExprSteps Expr Field Call Chain Formal Link Operation Place Prefix
 steps = record {
   expr = expr_step;

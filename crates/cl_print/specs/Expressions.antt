@@ -22,22 +22,26 @@ use Rattle.cl_ast.specs.declared.tree.Place.{Place}
 use Rattle.cl_ast.specs.declared.tree.Prefix.{Prefix}
 use Rattle.cl_ast.specs.declared.tree.Expr.TheOpen.{Expr-F, Field-F, Call-F, Chain-F, Formal-F, Link-F, Operation-F, Place-F, Prefix-F}
 use Rattle.cl_ast.specs.Plain.{PlainKind, Name, Int, Long, Character, Str, Keyword, Punctuator}
-use Rattle.cl_print.specs.Folds.{ExprSteps, fold_expr, fold_field, fold_call, fold_chain, fold_formal, fold_link, fold_operation, fold_place, fold_prefix}
+use Rattle.cl_ast.specs.Folds.{ExprSteps, fold_expr, fold_field, fold_call, fold_chain, fold_formal, fold_link, fold_operation, fold_place, fold_prefix}
 use Rattle.cl_print.specs.Spelling.{one}
 
 -- ---- tokens
 
+-- the tokens of one mark
 abbrev pub mark : Mark → List PlainKind
 mark m = one (Punctuator m)
 
+-- the tokens of one word of the grammar
 abbrev pub word : Word → List PlainKind
 word w = one (Keyword w)
 
+-- the token of a constant; a sign would be a token of its own
 abbrev pub constant_kind : Constant → PlainKind
 constant_kind (constants.Int value) = Int value
 constant_kind (constants.Long value) = Long value
 constant_kind (constants.Character byte) = Character byte
 
+-- the word by which an operation is written
 abbrev pub verb_word : Verb → Word
 verb_word verbs.Out = words.Out
 verb_word verbs.In = words.In
@@ -46,6 +50,7 @@ verb_word verbs.Inp = words.Inp
 verb_word verbs.Rdp = words.Rdp
 verb_word verbs.Eval = words.Eval
 
+-- the mark by which an operator is written
 abbrev pub operator_mark : Operator → Mark
 operator_mark operators.Or = marks.Or
 operator_mark operators.And = marks.And
@@ -126,6 +131,7 @@ listed xs = listed_on true xs
 abbrev pub behind_commas : List (List PlainKind) → List PlainKind
 behind_commas xs = listed_on false xs
 
+-- the tokens of each expression, without brackets round it
 abbrev pub all_kinds : List Said → List (List PlainKind)
 all_kinds [] = []
 all_kinds (x ∷ xs) = x.kinds ∷ all_kinds xs
@@ -136,6 +142,7 @@ abbrev pub indexed : Option Said → List PlainKind
 indexed None = []
 indexed (Some x) = mark marks.OpenSquare ++ (x.kinds ++ mark marks.CloseSquare)
 
+-- tokens in the order in which they are written
 abbrev pub Row : Type 0
 Row = List PlainKind
 
@@ -183,6 +190,7 @@ place_step p = one (Name p.name.bytes) ++ indexed p.index
 abbrev pub prefix_step : Prefix-F Said Row Row Said Row Joined Row Row Row → Row
 prefix_step p = operand 2 p.operand
 
+-- what is written of each part of an expression, from what is written of its own parts
 abbrev pub steps : ExprSteps Said Row Row Said Row Joined Row Row Row
 steps = record {
   expr = expr_step;
@@ -198,29 +206,38 @@ steps = record {
 
 -- ---- what is written of each
 
+-- an expression's tokens, and how loosely it binds
 unfoldable pub expr_said : Expr → Said
 expr_said = fold_expr steps
 
+-- the tokens of a field
 unfoldable pub field_kinds : Field → Row
 field_kinds = fold_field steps
 
+-- a name, and the arguments in brackets
 unfoldable pub call_kinds : Call → Row
 call_kinds = fold_call steps
 
+-- operands with operators between them, which bind as loosely as the operators do
 unfoldable pub chain_said : Chain → Said
 chain_said = fold_chain steps
 
+-- `?` and the place that is to get a value
 unfoldable pub formal_kinds : Formal → Row
 formal_kinds = fold_formal steps
 
+-- an operator, and what is written of the operand behind it
 unfoldable pub link_joined : Link → Joined
 link_joined = fold_link steps
 
+-- the operation's word, and the fields in brackets
 unfoldable pub operation_kinds : Operation → Row
 operation_kinds = fold_operation steps
 
+-- a name, and the index in square brackets where there is one
 unfoldable pub place_kinds : Place → Row
 place_kinds = fold_place steps
 
+-- the operand of a prefix operator, without that operator
 unfoldable pub prefix_kinds : Prefix → Row
 prefix_kinds = fold_prefix steps

@@ -1,4 +1,3 @@
-pub mod Folds
 pub mod Spelling
 pub mod Expressions
 pub mod Statements

@@ -10,6 +10,7 @@ abbrev pub fits_int : ℤ → Bool
 fits_int (pos n) = nat_le n 2147483647
 fits_int (negsuc n) = false
 
+-- whether a literal can spell this value as a `long`: from 0 to the greatest
 abbrev pub is_long : ℤ → Bool
 is_long (pos n) = fits_long n
 is_long (negsuc n) = false

@@ -8,7 +8,7 @@ use Rattle.cl_ast.specs.declared.statement.Parameter.{Parameter}
 use Rattle.cl_ast.specs.Grammar.{Part}
 use Rattle.cl_ast.specs.Grammar as parts
 use Rattle.cl_ast.specs.Trees.{tree_of}
-use Rattle.cl_print.specs.Folds.{fold_link}
+use Rattle.cl_ast.specs.Folds.{fold_link}
 use Rattle.cl_print.specs.Expressions.{expr_said, link_joined, field_kinds, place_kinds}
 use Rattle.cl_print.specs.Statements.{form_kinds, declarator_kinds, variables_kinds, stmt_line, block_kinds}
 use Rattle.cl_print.specs.Writing.{parameter_kinds, item_written}

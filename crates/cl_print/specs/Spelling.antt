@@ -22,6 +22,7 @@ bytes_of test (entry ∷ entries) = if test entry.1 then entry.0 else bytes_of t
 unfoldable pub word_bytes : Word → List ℕ
 word_bytes word = bytes_of (λ w. word_class w == word_class word) (map (λ w. (w.0.now, w.1)) WORDS)
 
+-- the bytes of a mark
 unfoldable pub mark_bytes : Mark → List ℕ
 mark_bytes mark = bytes_of (λ m. mark_class m == mark_class mark) (map (λ m. (m.0.now, m.1)) MARKS)
 
@@ -53,6 +54,7 @@ lexeme_of (Punctuator mark) = Sign (mark_bytes mark)
 lexeme_of Define = Letters (codes "#define")
 lexeme_of Reserved = Letters []
 
+-- the bytes by which a token is written
 unfoldable pub spelling : PlainKind → List ℕ
 spelling kind = lexeme_spelling (lexeme_of kind)
 
@@ -63,6 +65,7 @@ pub data Gap : Type 0 where
   Line : Gap
   Nothing : Gap
 
+-- the bytes that stand between two tokens: a space, LF, or none
 abbrev pub gap_bytes : Gap → List ℕ
 gap_bytes Blank = 32 ∷ []
 gap_bytes Line = 10 ∷ []

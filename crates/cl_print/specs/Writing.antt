@@ -22,19 +22,23 @@ abbrev pub result_word : Option TypeName → Word
 result_word None = words.Void
 result_word (Some t) = type_word t
 
+-- a type, and a name
 unfoldable pub parameter_kinds : Parameter → Row
 parameter_kinds p = word (type_word p.type_name) ++ one (kinds.Name p.name.bytes)
 
+-- the result's type or `void`, the name, the parameters in brackets and the body
 unfoldable pub function_kinds : Function → Row
 function_kinds f =
     word (result_word f.result) ++ (one (kinds.Name f.name.bytes) ++ (in_brackets (listed (map parameter_kinds f.parameters)) ++ block_kinds f.body))
 
 -- ---- define lines: nothing stands behind the minus, and the line ends behind the literal
 
+-- the `-` before the literal of a define line, where there is one
 abbrev pub minus : Bool → List Written
 minus true = record { kind = kinds.Punctuator marks.Minus; gap = Nothing } ∷ []
 minus false = []
 
+-- the front of the line, the name, a `-` where there is one, and the literal
 unfoldable pub define_written : Define → List Written
 define_written d =
     record { kind = kinds.Define; gap = Blank }
@@ -43,11 +47,13 @@ define_written d =
 
 -- ---- items
 
+-- the tokens of an item, each with what stands behind it
 abbrev pub item_written : Item → List Written
 item_written (items.Define d) = define_written d
 item_written (items.Variables v) = map spaced (variables_kinds v ++ mark marks.Semicolon)
 item_written (items.Function f) = map spaced (function_kinds f)
 
+-- the tokens of a text, item by item, each with what stands behind it
 abbrev pub written : List Item → List Written
 written [] = []
 written (x ∷ xs) = item_written x ++ written xs

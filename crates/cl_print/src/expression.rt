@@ -7,9 +7,9 @@ ghost use Rattle.cl_ast.specs.declared.mark.Mark.TheVariants as marks;
 
 use crate::writer::Writer;
 use cl_ast::{
-    Call, Chain, Expr, Field, Formal, Link, Mark, NoMemory, Operation, Operator, Place, Prefix,
-    Verb, Word,
+    Call, Chain, Expr, Field, Formal, Link, Mark, Operation, Operator, Place, Prefix, Verb, Word,
 };
+use cl_ground::NoMemory;
 use sqlite_items::Boxed;
 
 /// The word of an operation.
@@ -54,10 +54,17 @@ fn operator_rank(operator: Operator) -> u8
     match operator {
         Operator::Or => 7,
         Operator::And => 6,
-        Operator::Equal | Operator::NotEqual => 5,
-        Operator::Less | Operator::LessEqual | Operator::Greater | Operator::GreaterEqual => 4,
-        Operator::Add | Operator::Subtract => 3,
-        Operator::Multiply | Operator::Divide | Operator::Remainder => 2,
+        Operator::Equal => 5,
+        Operator::NotEqual => 5,
+        Operator::Less => 4,
+        Operator::LessEqual => 4,
+        Operator::Greater => 4,
+        Operator::GreaterEqual => 4,
+        Operator::Add => 3,
+        Operator::Subtract => 3,
+        Operator::Multiply => 2,
+        Operator::Divide => 2,
+        Operator::Remainder => 2,
     }
 }
 

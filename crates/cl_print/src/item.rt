@@ -9,7 +9,8 @@ ghost use Rattle.cl_print.specs.Back.{ReadsAs, ReadsBack};
 
 use crate::statement::type_word;
 use crate::writer::Writer;
-use cl_ast::{Define, Function, Item, Items, Mark, NoMemory, Parameter, TypeName, Unit, Word};
+use cl_ast::{Define, Function, Item, Mark, Parameter, TypeName, Unit, Word};
+use cl_ground::{Items, NoMemory};
 use std::alloc::Global;
 
 /// The word before a function's name.

@@ -5,8 +5,6 @@
 mod expression;
 mod item;
 mod statement;
-#[cfg(test)]
-mod tests;
 mod writer;
 
 pub use item::print;

@@ -9,9 +9,10 @@ ghost use Rattle.cl_print.specs.Statements.{expr_kinds, spanned_kinds, type_word
 
 use crate::writer::Writer;
 use cl_ast::{
-    Assign, Block, Change, Declarator, Do, Expr, For, Form, If, Mark, NoMemory, Print, Return,
-    Size, Spanned, Stmt, TypeName, Variables, While, Word,
+    Assign, Block, Change, Declarator, Do, Expr, For, Form, If, Mark, Print, Return, Size, Spanned,
+    Stmt, TypeName, Variables, While, Word,
 };
+use cl_ground::NoMemory;
 use sqlite_items::Boxed;
 
 /// The word of a type.
@@ -31,10 +32,20 @@ fn ends(stmt: &Stmt) -> bool
     ensures { result ≡ (stmt_line stmt.now).ends }
 {
     match stmt {
-        Stmt::Block(_) | Stmt::If(_) | Stmt::While(_) | Stmt::For(_) => false,
-        Stmt::Empty(_) | Stmt::Variables(_) | Stmt::Assign(_) | Stmt::Call(_) => true,
-        Stmt::Operation(_) | Stmt::Print(_) | Stmt::Do(_) => true,
-        Stmt::Break(_) | Stmt::Continue(_) | Stmt::Return(_) => true,
+        Stmt::Block(_) => false,
+        Stmt::Empty(_) => true,
+        Stmt::Variables(_) => true,
+        Stmt::Assign(_) => true,
+        Stmt::Call(_) => true,
+        Stmt::Operation(_) => true,
+        Stmt::Print(_) => true,
+        Stmt::If(_) => false,
+        Stmt::While(_) => false,
+        Stmt::Do(_) => true,
+        Stmt::For(_) => false,
+        Stmt::Break(_) => true,
+        Stmt::Continue(_) => true,
+        Stmt::Return(_) => true,
     }
 }
 

@@ -7,7 +7,8 @@ ghost use Rattle.cl_ast.specs.Classes.{word_class, mark_class};
 ghost use Rattle.cl_print.specs.Spelling.{bytes_of, word_bytes, mark_bytes, mark_gap, gap_bytes, in_string, in_character, spelling, one, after};
 ghost use Rattle.cl_print.specs.Expressions.{constant_kind};
 
-use cl_ast::{Constant, Items, MARKS, Mark, Name, NoMemory, Text, WORDS, Word};
+use cl_ast::{Constant, MARKS, Mark, Name, Text, WORDS, Word};
+use cl_ground::{Items, NoMemory};
 use itoa::Buffer;
 use std::alloc::Global;
 use std::marker::Model;

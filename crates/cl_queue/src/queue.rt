@@ -1,5 +1,6 @@
+use cl_ground::NoMemory;
 use cl_store::{NextTuple, TupleStore};
-use cl_value::{NoMemory, Steps, Template, Tuple};
+use cl_value::{Steps, Template, Tuple};
 use std::alloc::{AllocError, Global};
 use std::collections::VecDeque;
 use std::marker::Model;
@@ -110,6 +111,3 @@ impl TupleStore for Queue {
         self.tuples.len() as u64
     }
 }
-
-#[cfg(test)]
-mod tests;

@@ -116,10 +116,12 @@ pub record IsRule {T A : Type 0} (g : Grammar T A) (n : ℕ) (read : Parser T A)
 
 -- ---- one token
 
+-- what a token is taken for, and the tokens behind it; none: nothing goes on there
 abbrev pub taken : {T A : Type 0} → Option A → List T → List T → Result (A × List T) (Kind × List T)
 taken None ts rest = Err (Syntax, ts)
 taken (Some x) ts rest = Ok (x, rest)
 
+-- one token is read that is accepted
 abbrev pub one : {T A : Type 0} → (T → Option A) → Parser T A
 one accept [] = Err (Syntax, [])
 one accept (t ∷ ts) = taken (accept t) (t ∷ ts) ts
@@ -195,6 +197,7 @@ abbrev pub renamed : {T A B : Type 0} → (A → B) → Result (A × List T) (Ki
 renamed f (Err bad) = Err bad
 renamed f (Ok y) = Ok (f y.0, y.1)
 
+-- what is read, seen as something else
 abbrev pub made : {T A B : Type 0} → (A → B) → Parser T A → Parser T B
 made f p ts = renamed f (p ts)
 
@@ -369,12 +372,14 @@ seen_grammar back f = record {
   ends = f.ends;
 }
 
+-- one part is read, and then another, which alone tells
 abbrev pub after : {T A : Type 0} → Parser T (Unit {0}) → Parser T A → Parser T A
 after p q = made (λ x. x.1) (both p q)
 
 abbrev pub after_grammar : {T A : Type 0} → Grammar T (Unit {0}) → Grammar T A → Grammar T A
 after_grammar f g = seen_grammar (λ x. (tt, x)) (both_grammar f g)
 
+-- one part is read, which alone tells, and then another
 abbrev pub before : {T A : Type 0} → Parser T A → Parser T (Unit {0}) → Parser T A
 before p q = made (λ x. x.0) (both p q)
 
@@ -383,6 +388,7 @@ before_grammar f g = seen_grammar (λ x. (x, tt)) (both_grammar f g)
 
 -- ---- operands with operators between them, and members with marks between them
 
+-- an operand, and any number of operators with operands behind them
 abbrev pub chain : {T A O : Type 0} → (T → Bool) → Parser T A → Parser T O → Parser T (A × List (O × A))
 chain test p o = both p (many test (both o p))
 
@@ -397,6 +403,7 @@ separated_grammar test f o = both_grammar f (many_grammar test (after_grammar o 
 
 -- ---- a part whose nesting is counted: it is read by the readers of the nesting below, if there are any
 
+-- a part is read where one more may stand; where none may, its first token refuses
 abbrev pub counted : {T A R : Type 0} → (T → Bool) → (R → Parser T A) → Option R → Parser T A
 counted test part (Some r) ts = part r ts
 counted test part None ts = if begins test false ts then Err (TooDeep, ts) else Err (Syntax, ts)
@@ -433,6 +440,7 @@ abbrev pub to_the_end : {T A : Type 0} → Result (A × List T) (Kind × List T)
 to_the_end (Err bad) = Err bad
 to_the_end (Ok y) = all_of y.0 y.1
 
+-- a part is read, and no token is left
 abbrev pub whole : {T A : Type 0} → Parser T A → List T → Result A (Kind × List T)
 whole p ts = to_the_end (p ts)
 

@@ -32,6 +32,7 @@ a ∣ b = Either a b
 abbrev pub maybe : {T S : Type 0} → Rule T S → Rule T S
 maybe a = Either a Nothing
 
+-- operands with operators between them
 abbrev pub chain : {T S : Type 0} → Rule T S → Rule T S → Rule T S
 chain operand operator = Both operand (Many (Both operator operand))
 

@@ -1,13 +1,13 @@
 -- What is answered where an operation doesn't wait: its request, and a reply that fits it.
-use Rattle.std.proofs.Common.{◌≡◌, ℕ, Bool, true, false, List, Option, Some, None, IsTrue, is_none, option_map, refl, sym, ◌∙◌, ap, subst}
+use Rattle.std.proofs.Common.{◌≡◌, Bool, true, false, List, Option, Some, None, IsTrue, is_none, option_map, refl, sym, ◌∙◌, ap, subst}
 use Rattle.std.specs.Prelude.{IfSome}
 use Rattle.cl_store.specs.Answers.{answer, take_answer, read_answer, take_now_answer, read_now_answer}
 use Rattle.cl_value.specs.Acts.{ask_of}
 use Rattle.cl_value.specs.Plain.{PlainAsk, Out, In, Rd, Inp, Rdp, Eval, Land, PlainRequest}
-use Rattle.cl_value.specs.Replay.{found, replay, replayed}
+use Rattle.cl_value.specs.Replay.{found}
 use Rattle.cl_value.specs.declared.value.Value.{Value}
 use Rattle.cl_set.specs.Deeds.{waits, reply_fits}
-use Rattle.cl_set.specs.Sets.{Deed, PlainSet, after_deed, asked_in, content}
+use Rattle.cl_set.specs.Sets.{Deed, asked_in}
 use Rattle.cl_set.specs.declared.set_core.Planned.{Planned}
 use Rattle.cl_set.specs.declared.set_core.Planned.TheVariants as plans
 use Rattle.cl_set.proofs.Found.{found-matches}
@@ -47,9 +47,3 @@ pub fits-begun : (o : Option Deed) (request : PlainRequest) (ts : List (List Val
 fits-begun o request ts is goes =
     let P : Option Deed → Type 0 = λ p. IfSome p (λ (deed : Deed). IsTrue (reply_fits deed.what)) in
     subst P (sym is) (answer-fits ts request.ask goes)
-
--- the content has changed as it says
-pub content-begun : (old new : PlainSet) (site : ℕ) (ask : PlainAsk) → old.begun ≡ None → new ≡ record { shape = old.shape; limit = old.limit; acts = old.acts; begun = Some (record { site = site; what = answer (replay old.acts) ask }) } → content new ≡ replayed (content old) (answer (content old) ask)
-content-begun old new site ask none is =
-    let idle : content old ≡ replay old.acts = ap (after_deed (replay old.acts)) none in
-    ap content is ∙ ap (λ ts. replayed ts (answer ts ask)) (sym idle)

@@ -19,7 +19,7 @@ use Rattle.cl_value.specs.declared.template.Slot.{Slot}
 use Rattle.cl_set.specs.Standing.{BegunStands, Stands, deed_of, set_of}
 use Rattle.cl_set.specs.declared.set_core.Begun.{Begun}
 use Rattle.cl_set.specs.declared.store.Store.{Store}
-use Rattle.cl_value.specs.Room.{Room, capacity_of}
+use Rattle.cl_ground.specs.Room.{Room, capacity_of}
 use Rattle.cl_value.specs.Views.{plain_act, plain_what}
 use Rattle.cl_value.specs.declared.act.Act.{Act}
 use Rattle.cl_sig.specs.Views.{plain_shape}

@@ -9,6 +9,7 @@ use Rattle.cl_sig.specs.declared.signature.Mark.{Mark}
 use Rattle.cl_sig.specs.declared.signature.Mark.TheVariants as marks
 use Rattle.cl_sig.specs.declared.shape.Class.{Class}
 use Rattle.cl_sig.specs.declared.shape.Class.TheVariants as classes
+use Rattle.cl_ground.specs.declared.limits.TheConstants.{MOST_FIELDS}
 
 -- whether a field is there and evaluated to an `int`, a `long` or a `char`
 abbrev pub is_number_mark : Option Mark → Bool
@@ -26,7 +27,7 @@ class_allows _ fields = true
 -- a character at the key
 pub record IsStorable (shape : PlainShape) : Type 0 where
   pub some : 0 < length shape.common.fields
-  pub few : length shape.common.fields ≤ 16
+  pub few : length shape.common.fields ≤ MOST_FIELDS
   pub class : IsTrue (class_allows shape.class shape.common.fields)
 
 -- whether a site is one of the shape's

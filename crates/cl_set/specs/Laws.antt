@@ -25,6 +25,7 @@ act_of ts turn = record { ticket = turn.ticket; proc = turn.proc; site = turn.re
 abbrev pub after_turn : PlainSet → Turn → PlainSet
 after_turn set turn = record { shape = set.shape; limit = set.limit; acts = set.acts ++ act_of (content set) turn ∷ []; begun = None }
 
+-- the set after turns, one after another
 abbrev pub after_turns : PlainSet → List Turn → PlainSet
 after_turns set [] = set
 after_turns set (turn ∷ turns) = after_turns (after_turn set turn) turns
@@ -33,6 +34,7 @@ after_turns set (turn ∷ turns) = after_turns (after_turn set turn) turns
 abbrev pub done_to : List (List Value) → PlainAsk → List (List Value)
 done_to ts ask = replayed ts (answer ts ask)
 
+-- a list of tuples after turns, each on what the one before has left
 abbrev pub tuples_after : List (List Value) → List Turn → List (List Value)
 tuples_after ts [] = ts
 tuples_after ts (turn ∷ turns) = tuples_after (done_to ts turn.request.ask) turns

@@ -1,6 +1,6 @@
 -- What the fields of a set mean. (This project.)
 use Rattle.std.specs.Prelude.{◌≡◌, ℕ, ◌<◌, List, map, Option, Some, None, All, IsTrue}
-use Rattle.cl_value.specs.Room.{Room, HasRoom}
+use Rattle.cl_ground.specs.Room.{Room, HasRoom}
 use Rattle.cl_value.specs.Views.{plain_act, plain_what}
 use Rattle.cl_value.specs.declared.act.Act.{Act}
 use Rattle.cl_value.specs.declared.value.Value.{Value}
@@ -14,6 +14,7 @@ use Rattle.cl_set.specs.Sets.{Deed, PlainSet, content}
 use Rattle.cl_set.specs.Stores.{class_of, content_in, admitted_by, fitted_by}
 use Rattle.cl_set.specs.declared.set_core.Begun.{Begun}
 use Rattle.cl_set.specs.declared.store.Store.{Store}
+use Rattle.cl_ground.specs.declared.limits.TheConstants.{MOST_FIELDS}
 
 -- what is begun
 abbrev pub deed_of : Option Begun → Option Deed
@@ -42,4 +43,4 @@ pub record Stands (shape : SetShape) (limit : ℕ) (store : Store) (acts : Room 
   pub content : content_in store ≡ content (set_of shape limit acts begun)
   pub serves : Serves (plain_shape shape) store
   pub twice : BegunStands acts begun
-  pub room : HasRoom 16 buffer
+  pub room : HasRoom MOST_FIELDS buffer

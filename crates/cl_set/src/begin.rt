@@ -1,7 +1,8 @@
+ghost use Rattle.cl_ground.specs.declared.limits.TheConstants.{MOST_FIELDS};
 ghost use Rattle.std.specs.Prelude.{◌≡◌, ◌+◌, ◌≤◌, [], ◌∷◌, ◌++◌, is_none, option_map, All, IsTrue, IfOk, IfSome, OnErr, IsErr};
 ghost use Rattle.cl_value.specs.Plain.{Out, In, Rd, Inp, Rdp, Eval, Land};
 ghost use Rattle.cl_value.specs.Replay.{found, without_first, replayed};
-ghost use Rattle.cl_value.specs.Room.{HasRoom, capacity_of};
+ghost use Rattle.cl_ground.specs.Room.{HasRoom, capacity_of};
 ghost use Rattle.cl_value.specs.Views.{plain_ask, plain_what};
 ghost use Rattle.cl_store.specs.Answers.{answer, template_of};
 ghost use Rattle.cl_set.specs.Deeds.{waits, tuple_added};
@@ -9,8 +10,9 @@ ghost use Rattle.cl_set.specs.Stores.{class_of, content_in, admitted_by, fitted_
 
 use crate::place::{Answered, Place};
 use crate::store::Store;
+use cl_ground::NoMemory;
 use cl_store::TupleStore;
-use cl_value::{Ask, NoMemory, Steps, Template, Tuple, What};
+use cl_value::{Ask, Steps, Template, Tuple, What};
 use std::alloc::Global;
 use std::sync::ledger::Ledger;
 
@@ -31,7 +33,7 @@ pub fn begin<L: Ledger>(
 ) -> Result<Option<Twice>, NoMemory>
     requires admits { All (λ t. IsTrue (admitted_by store.old t)) (tuple_added (plain_ask ask.now)) }
     requires fits { All (λ m. IsTrue (fitted_by store.old (content_in store.old) m)) (template_of (plain_ask ask.now)) }
-    requires room { HasRoom 16 buffer.old }
+    requires room { HasRoom MOST_FIELDS buffer.old }
     ensures waits { IfOk result (λ r. is_none r ≡ waits (content_in store.old) (plain_ask ask.now)) }
     ensures kept { IfOk result (λ r. IfSome r (λ twice. plain_what twice.kept ≡ answer (content_in store.old) (plain_ask ask.now))) }
     ensures told { IfOk result (λ r. IfSome r (λ twice. plain_what twice.told ≡ answer (content_in store.old) (plain_ask ask.now))) }
@@ -122,7 +124,7 @@ fn take<L: Ledger>(
     steps: &mut Steps<L>,
 ) -> Result<(Answered, Answered), NoMemory>
     requires fits { IsTrue (fitted_by store.old (content_in store.old) template.now.items) }
-    requires room { HasRoom 16 buffer.old }
+    requires room { HasRoom MOST_FIELDS buffer.old }
     ensures kept_asked { IfOk result (λ r. r.0.asked.items ≡ template.now.items) }
     ensures told_asked { IfOk result (λ r. r.1.asked.items ≡ template.now.items) }
     ensures kept { IfOk result (λ r. option_map (λ t. t.items) r.0.got ≡ found (content_in store.old) template.now.items) }
@@ -156,7 +158,7 @@ fn find<L: Ledger>(
     steps: &mut Steps<L>,
 ) -> Result<(Answered, Answered), NoMemory>
     requires fits { IsTrue (fitted_by store.now (content_in store.now) template.now.items) }
-    requires room { HasRoom 16 buffer.old }
+    requires room { HasRoom MOST_FIELDS buffer.old }
     ensures kept_asked { IfOk result (λ r. r.0.asked.items ≡ template.now.items) }
     ensures told_asked { IfOk result (λ r. r.1.asked.items ≡ template.now.items) }
     ensures kept { IfOk result (λ r. option_map (λ t. t.items) r.0.got ≡ found (content_in store.now) template.now.items) }

@@ -10,8 +10,6 @@ mod laws;
 mod place;
 mod set_core;
 mod store;
-#[cfg(test)]
-mod tests;
 
 pub use laws::{a_counter_never_compares, each_turn_is_kept};
 pub use set_core::{Planned, SetCore};

@@ -1,4 +1,5 @@
-use cl_value::{Items, NoMemory, Template, Tuple, Value};
+use cl_ground::{Items, NoMemory};
+use cl_value::{Template, Tuple, Value};
 use std::alloc::Global;
 
 // A copy of a template, and memory for the fields of its match, made ahead of the search.
@@ -17,7 +18,7 @@ pub struct Answered {
 
 impl Place {
     ghost use Rattle.std.specs.Prelude.{◌≡◌, ◌<◌, ◌≤◌, [], length, option_map, IfOk, None, Some};
-    ghost use Rattle.cl_value.specs.Room.{Room};
+    ghost use Rattle.cl_ground.specs.Room.{Room};
 
     // `NoMemory` comes where the allocator refused the room.
     pub fn new(alloc: Global, template: &Template) -> Result<Place, NoMemory>

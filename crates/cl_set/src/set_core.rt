@@ -1,12 +1,13 @@
 use crate::begin::{Twice, begin};
 use crate::store::Store;
 use cl_counter::Counter;
+use cl_ground::{Items, NoMemory};
 use cl_keyed::Keyed;
 use cl_list::Listed;
 use cl_queue::Queue;
 use cl_sig::{Class, Mark, SetShape};
 use cl_store::TupleStore;
-use cl_value::{Act, Ask, History, Items, NoMemory, Request, Steps, Tuple, Value, What};
+use cl_value::{Act, Ask, History, Request, Steps, Tuple, Value, What};
 use std::alloc::Global;
 use std::marker::Model;
 use std::sync::ledger::Ledger;
@@ -234,8 +235,9 @@ impl SetCore {
     }
 }
 
+ghost use Rattle.cl_ground.specs.declared.limits.TheConstants.{MOST_FIELDS};
 ghost use Rattle.std.specs.Prelude.{◌≡◌, ◌+◌, ◌≤◌, [], All, IsTrue, IfOk, if◌then◌else◌};
-ghost use Rattle.cl_value.specs.Room.{HasRoom, capacity_of};
+ghost use Rattle.cl_ground.specs.Room.{HasRoom, capacity_of};
 ghost use Rattle.cl_value.specs.Views.{plain_ask};
 ghost use Rattle.cl_sig.specs.Views.{plain_shape};
 ghost use Rattle.cl_store.specs.Answers.{template_of};
@@ -253,7 +255,7 @@ fn refuse<L: Ledger>(
     steps: &mut Steps<L>,
 ) -> Planned
     requires fits { All (λ m. IsTrue (fitted_by store.now (content_in store.now) m)) (template_of (plain_ask ask.now)) }
-    requires room { HasRoom 16 buffer.old }
+    requires room { HasRoom MOST_FIELDS buffer.old }
     ensures answer { result ≡ (if waits (content_in store.now) (plain_ask ask.now) then Planned.NotYet else otherwise) }
     ensures searches { All (λ m. steps.new ≤ steps.old + cost_in store.now m) (template_of (plain_ask ask.now)) }
     ensures others { template_of (plain_ask ask.now) ≡ [] → steps.new ≡ steps.old }

@@ -1,9 +1,10 @@
 use cl_counter::Counter;
+use cl_ground::NoMemory;
 use cl_keyed::Keyed;
 use cl_list::Listed;
 use cl_queue::Queue;
 use cl_store::TupleStore;
-use cl_value::{NoMemory, Steps, Template, Tuple};
+use cl_value::{Steps, Template, Tuple};
 use std::sync::ledger::Ledger;
 
 // The store of a set, one kind for each class.
@@ -21,9 +22,10 @@ pub enum Store {
 
 impl TupleStore for Store {
     ghost use Rattle.std.specs.Prelude.{◌≡◌, ◌+◌, ◌≤◌, true, false, [], ◌∷◌, ◌++◌, length, is_some, IsTrue, OnOk, OnErr, IsOk, Some};
-    ghost use Rattle.cl_value.specs.Room.{HasRoom, capacity_of};
+    ghost use Rattle.cl_ground.specs.Room.{HasRoom, capacity_of};
     ghost use Rattle.cl_value.specs.Replay.{first_match, found, without_first};
     ghost use Rattle.cl_set.specs.Stores.{class_of, content_in, room_in, admitted_by, fitted_by, cost_in};
+    ghost use Rattle.cl_ground.specs.declared.limits.TheConstants.{MOST_FIELDS};
 
     ghost content = { content_in };
 
@@ -76,7 +78,7 @@ impl TupleStore for Store {
         steps: &mut Steps<L>,
     ) -> bool
         requires fits { IsTrue (fitted_by self.old (content_in self.old) template.now.items) }
-        requires room { HasRoom 16 into.old }
+        requires room { HasRoom MOST_FIELDS into.old }
         ensures value { result ≡ is_some (first_match (content_in self.old) template.now.items) }
         ensures taken { result ≡ true → found (content_in self.old) template.now.items ≡ Some into.new.items }
         ensures left { result ≡ true → content_in self.new ≡ without_first (content_in self.old) template.now.items }

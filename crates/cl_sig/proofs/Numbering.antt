@@ -55,23 +55,6 @@ number_below next (m ∷ ns) (suc i) n order here =
           omega (arith, rest, count_from-old next m ns d)
     ]
 
--- each number from `next` to the count stands somewhere
-pub number_stands : (next : ℕ) (ns : List ℕ) (n : ℕ) → next ≤ n → n < count_from next ns → (i : ℕ) × (slice_get ns i ≡ Some n)
-number_stands next [] n low high = absurd (omega arith)
-number_stands next (m ∷ ns) n low high =
-    elim (cases_eq m n) [
-      | inl e ↦ (0, ap Some e)
-      | inr other ↦
-          elim (cases_eq m next) [
-            | inl e ↦
-                let rest = number_stands (next + 1) ns n (omega (arith, other, e)) (omega (arith, count_from-new next m ns e)) in
-                (suc rest.0, rest.1)
-            | inr d ↦
-                let rest = number_stands next ns n low (omega (arith, count_from-old next m ns d)) in
-                (suc rest.0, rest.1)
-          ]
-    ]
-
 -- one more number at the end, which came before or is the next new one
 pub in_order-push : (next : ℕ) (ns : List ℕ) (n : ℕ) → in_order next ns ≡ true → n ≤ count_from next ns → in_order next (ns ++ n ∷ []) ≡ true
 in_order-push next [] n order low =

@@ -8,6 +8,7 @@ abbrev pub may_pair : PlainSignature → PlainSignature → Bool
 may_pair a b =
     if is_producer a.kind then not (is_producer b.kind) && may_match a b else is_producer b.kind && may_match b a
 
+-- whether there are two signatures, and they may match so
 abbrev pub may_pair_at : Option PlainSignature → Option PlainSignature → Bool
 may_pair_at (Some a) (Some b) = may_pair a b
 may_pair_at _ _ = false

@@ -21,6 +21,7 @@ abbrev pub is_constant : Value → Mark → Bool
 is_constant v (marks.Constant w) = same_value v w
 is_constant v _ = false
 
+-- whether a mark is a formal
 abbrev pub is_formal : Mark → Bool
 is_formal (marks.Formal type) = true
 is_formal _ = false
@@ -30,9 +31,11 @@ abbrev pub has : (Mark → Bool) → Option Mark → Bool
 has test (Some mark) = test mark
 has test None = false
 
+-- whether a signature has this literal at a field
 abbrev pub has_constant : ℕ → Value → PlainSignature → Bool
 has_constant f v s = has (is_constant v) (slice_get s.fields f)
 
+-- whether a signature has a formal at a field
 abbrev pub has_formal : ℕ → PlainSignature → Bool
 has_formal f s = has is_formal (slice_get s.fields f)
 
@@ -41,6 +44,7 @@ abbrev pub literal_of : Option Mark → Option Value
 literal_of (Some (marks.Constant v)) = Some v
 literal_of _ = None
 
+-- a literal, where all signatures have it at a field
 abbrev pub shared_by : ℕ → List PlainSignature → Option Value → Option Value
 shared_by f all (Some v) = if list_all (has_constant f v) all then Some v else None
 shared_by f all None = None
@@ -58,6 +62,7 @@ is_fixed all f = is_some (constant_at f all)
 abbrev pub is_received : List PlainSignature → ℕ → Bool
 is_received all f = list_all (λ s. is_producer s.kind || has_formal f s) all
 
+-- whether each consumer has a value at a field: none has a formal
 abbrev pub is_given : List PlainSignature → ℕ → Bool
 is_given all f = list_all (λ s. is_producer s.kind || not (has_formal f s)) all
 
@@ -75,6 +80,7 @@ arity (s ∷ all) = length s.fields
 abbrev pub is_key : List PlainSignature → ℕ → Bool
 is_key all f = not (is_text all f) && not (is_fixed all f) && is_given all f
 
+-- the class by a key, where there is one, and else the list
 abbrev pub keyed_or_list : Option ℕ → Class
 keyed_or_list (Some f) = classes.Keyed f
 keyed_or_list None = classes.List

@@ -35,9 +35,11 @@ part_fits _ _ = false
 abbrev pub is_tuple_of : List Mark → List Value → Bool
 is_tuple_of = all_beside value_fits
 
+-- whether a template is an instance of a signature's fields
 abbrev pub is_template_of : List Mark → List Slot → Bool
 is_template_of = all_beside slot_fits
 
+-- whether a live tuple is an instance of a signature's fields
 abbrev pub is_live_of : List Mark → List PlainPart → Bool
 is_live_of = all_beside part_fits
 
@@ -52,9 +54,11 @@ ask_fits kinds.Eval fields (Eval live) = is_live_of fields live
 ask_fits kinds.Eval fields (Land t) = is_tuple_of fields t
 ask_fits _ _ _ = false
 
+-- whether an operation is an instance of a signature
 abbrev pub is_instance : PlainSignature → PlainAsk → Bool
 is_instance signature ask = ask_fits signature.kind signature.fields ask
 
+-- whether there is a signature, and an operation is an instance of it
 abbrev pub is_instance_at : Option PlainSignature → PlainAsk → Bool
 is_instance_at (Some signature) ask = is_instance signature ask
 is_instance_at None ask = false

@@ -8,6 +8,7 @@ use Rattle.cl_sig.specs.declared.signature.Mark.{Mark}
 use Rattle.cl_sig.specs.declared.signature.Mark.TheVariants as marks
 use Rattle.cl_sig.specs.declared.shape.Class.{Class}
 
+-- the number of a set, its class, what its sites have in common, and its sites
 pub record PlainShape : Type 0 where
   pub set : ℕ
   pub class : Class

@@ -37,14 +37,17 @@ part_suits mark (Ready w) = value_suits mark w
 part_suits (marks.Actual type) (Call function arguments gives) = same_type type gives
 part_suits _ _ = false
 
+-- whether a mark is a literal
 abbrev pub is_literal : Mark → Bool
 is_literal (marks.Constant v) = true
 is_literal _ = false
 
+-- whether a slot is a formal
 abbrev pub is_formal_slot : Slot → Bool
 is_formal_slot (slots.Formal type) = true
 is_formal_slot _ = false
 
+-- whether there is a slot, and it is an actual
 abbrev pub is_actual_at : Option Slot → Bool
 is_actual_at (Some (slots.Actual v)) = true
 is_actual_at _ = false
@@ -60,12 +63,15 @@ class_suits _ fields m = true
 abbrev pub tuple_suits : PlainShape → List Value → Bool
 tuple_suits shape t = all_beside value_suits shape.common.fields t
 
+-- whether a template suits a shape
 abbrev pub template_suits : PlainShape → List Slot → Bool
 template_suits shape m = all_beside slot_suits shape.common.fields m && class_suits shape.class shape.common.fields m
 
+-- whether a live tuple suits a shape
 abbrev pub live_suits : PlainShape → List PlainPart → Bool
 live_suits shape live = all_beside part_suits shape.common.fields live
 
+-- whether an operation suits a shape
 abbrev pub ask_suits : PlainShape → PlainAsk → Bool
 ask_suits shape (Out t) = tuple_suits shape t
 ask_suits shape (In m) = template_suits shape m

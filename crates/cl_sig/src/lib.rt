@@ -9,8 +9,6 @@
 mod sets;
 mod shape;
 mod signature;
-#[cfg(test)]
-mod tests;
 
 pub use sets::Sets;
 pub use shape::{Class, SetShape};

@@ -1,4 +1,4 @@
-use cl_value::Items;
+use cl_ground::Items;
 use std::marker::Model;
 
 /// The number of the set of each site. (This project.)
@@ -23,7 +23,7 @@ impl Model for Sets {
 
 impl Sets {
     ghost use Rattle.std.specs.Prelude.{◌≡◌, ◌<◌, length, slice_get, IsTrue, Some};
-    ghost use Rattle.cl_value.specs.Room.{Room};
+    ghost use Rattle.cl_ground.specs.Room.{Room};
     ghost use Rattle.cl_sig.specs.Numbers.{in_order, count_from, count_of};
 
     /// The sets of sites with these numbers, of which there are so many. It takes no memory.

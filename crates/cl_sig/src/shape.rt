@@ -1,5 +1,5 @@
 use crate::Signature;
-use cl_value::Items;
+use cl_ground::Items;
 
 /// How a set can be stored, by what the text tells of its sites. (This project.)
 #[derive(Clone, Copy, Debug, PartialEq, Eq)]

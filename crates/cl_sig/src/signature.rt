@@ -1,4 +1,5 @@
-use cl_value::{FieldType, Items, Value};
+use cl_ground::Items;
+use cl_value::{FieldType, Value};
 
 /// What the text of an operation tells of one of its fields. (This project.)
 #[derive(Clone, Copy, Debug, PartialEq, Eq)]

@@ -1,4 +1,3 @@
 pub mod Narrow
-pub mod PlacesOfExpressions
 pub mod PlacesOfParts
 pub mod PlacesOfTexts

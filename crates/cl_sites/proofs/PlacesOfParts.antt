@@ -15,6 +15,7 @@ use Rattle.cl_ast.specs.declared.tree.Formal.{Formal, out-Formal}
 use Rattle.cl_ast.specs.declared.tree.Chain.{Chain, out-Chain}
 use Rattle.cl_ast.specs.declared.tree.Link.{Link, out-Link}
 use Rattle.cl_ast.specs.declared.tree.Prefix.{Prefix, out-Prefix}
+use Rattle.cl_ast.proofs.Inductions.{ExprGoods, every_expr as inductive_expr, every_place as inductive_place, every_call as inductive_call, every_operation as inductive_operation}
 use Rattle.cl_listing.specs.Listing.{Entries, joined, in_expr, in_place, in_call, in_operation, in_maybe}
 use Rattle.cl_listing.specs.Listing as listing
 use Rattle.cl_listing.specs.Listed.{sites_in}
@@ -75,34 +76,34 @@ GoodPrefix x = GoodExpr (out-Prefix x).operand
 
 -- ---- the forms of an expression and of a field
 
-pub good_literal : (x : Literal) → GoodExpr (exprs.Literal x)
+good_literal : (x : Literal) → GoodExpr (exprs.Literal x)
 good_literal x known = same_is _ [] _ [] (finding.of_literal x known) (rules.of_literal x) refl
 
-pub good_place : (x : Place) → GoodPlace x → GoodExpr (exprs.Place x)
+good_place : (x : Place) → GoodPlace x → GoodExpr (exprs.Place x)
 good_place x g known = same_is _ _ _ _ (finding.of_place x known) (rules.of_place x) (g known)
 
-pub good_call : (x : Call) → GoodCall x → GoodExpr (exprs.Call x)
+good_call : (x : Call) → GoodCall x → GoodExpr (exprs.Call x)
 good_call x g known = same_is _ _ _ _ (finding.of_call x known) (rules.of_call x) (g known)
 
-pub good_operation : (x : Operation) → GoodOperation x → GoodExpr (exprs.Operation x)
+good_operation : (x : Operation) → GoodOperation x → GoodExpr (exprs.Operation x)
 good_operation x g known = same_is _ _ _ _ (finding.of_operation x known) (rules.of_operation x) (g known)
 
-pub good_chain : (x : Chain) → GoodChain x → GoodExpr (exprs.Chain x)
+good_chain : (x : Chain) → GoodChain x → GoodExpr (exprs.Chain x)
 good_chain x g known = same_is _ _ _ _ (finding.of_chain x known) (rules.of_chain x) (g known)
 
-pub good_negate : (x : Prefix) → GoodPrefix x → GoodExpr (exprs.Negate x)
+good_negate : (x : Prefix) → GoodPrefix x → GoodExpr (exprs.Negate x)
 good_negate x g known = same_is _ _ _ _ (finding.of_negate x known) (rules.of_negate x) (g known)
 
-pub good_not : (x : Prefix) → GoodPrefix x → GoodExpr (exprs.Not x)
+good_not : (x : Prefix) → GoodPrefix x → GoodExpr (exprs.Not x)
 good_not x g known = same_is _ _ _ _ (finding.of_not x known) (rules.of_not x) (g known)
 
-pub good_text : (x : Text) → GoodField (fields.Text x)
+good_text : (x : Text) → GoodField (fields.Text x)
 good_text x known = same_is _ [] _ (listing.Text x.bytes ∷ []) (finding.of_text x known) (rules.of_text x) refl
 
-pub good_formal : (x : Formal) → GoodFormal x → GoodField (fields.Formal x)
+good_formal : (x : Formal) → GoodFormal x → GoodField (fields.Formal x)
 good_formal x g known = same_is _ _ _ _ (finding.of_formal x known) (rules.of_formal x) (g known)
 
-pub good_plain : (x : Expr) → GoodExpr x → GoodField (fields.Plain x)
+good_plain : (x : Expr) → GoodExpr x → GoodField (fields.Plain x)
 good_plain x g known = same_is _ _ _ _ (finding.of_plain x known) (rules.of_plain x) (g known)
 
 -- ---- parts in their order
@@ -111,7 +112,7 @@ good_index : (i : Option ((x : Expr) × GoodExpr x)) (known : Known) → Same (m
 good_index None known = refl
 good_index (Some x) known = x.1 known
 
-pub place_good : (p : Place) (index : Option ((x : Expr) × GoodExpr x)) → option_map (λ y. y.0) index ≡ (out-Place p).index → GoodPlace p
+place_good : (p : Place) (index : Option ((x : Expr) × GoodExpr x)) → option_map (λ y. y.0) index ≡ (out-Place p).index → GoodPlace p
 place_good p index h known =
     let P : Option Expr → Type 0 = λ i. Same (maybe_forms i known) (in_maybe i) in
     same_is _ _ _ _ (finding.place_is p known) (rules.place_is p) (subst P h (good_index index known))
@@ -120,7 +121,7 @@ good_exprs : (ys : List ((x : Expr) × GoodExpr x)) (known : Known) → Same (ea
 good_exprs [] known = refl
 good_exprs (y ∷ ys) known = both (expr_forms y.0 known) (each expr_forms (map (λ z. z.0) ys) known) (in_expr y.0) (joined (map in_expr (map (λ z. z.0) ys))) (y.1 known) (good_exprs ys known)
 
-pub call_good : (x : Call) (ys : List ((e : Expr) × GoodExpr e)) → map (λ y. y.0) ys ≡ (out-Call x).arguments → GoodCall x
+call_good : (x : Call) (ys : List ((e : Expr) × GoodExpr e)) → map (λ y. y.0) ys ≡ (out-Call x).arguments → GoodCall x
 call_good x ys h known =
     let P : List Expr → Type 0 = λ es. Same (each expr_forms es known) (joined (map in_expr es)) in
     same_is _ _ _ _ (finding.call_is x known) (rules.call_is x) (subst P h (good_exprs ys known))
@@ -129,7 +130,7 @@ good_fields : (ys : List ((x : Field) × GoodField x)) (known : Known) → Same 
 good_fields [] known = refl
 good_fields (y ∷ ys) known = both (inner_forms y.0 known) (each inner_forms (map (λ z. z.0) ys) known) (in_field y.0) (joined (map in_field (map (λ z. z.0) ys))) (y.1 known) (good_fields ys known)
 
-pub operation_good : (o : Operation) (ys : List ((x : Field) × GoodField x)) → map (λ y. y.0) ys ≡ (out-Operation o).fields → GoodOperation o
+operation_good : (o : Operation) (ys : List ((x : Field) × GoodField x)) → map (λ y. y.0) ys ≡ (out-Operation o).fields → GoodOperation o
 operation_good o ys h known =
     let P : List Field → Type 0 = λ gs. Same (each inner_forms gs known) (joined (map in_field gs)) in
     let inner = subst P h (good_fields ys known) in
@@ -142,10 +143,27 @@ good_links : (ys : List ((x : Link) × GoodLink x)) (known : Known) → Same (ea
 good_links [] known = refl
 good_links (y ∷ ys) known = both (link_forms y.0 known) (each link_forms (map (λ z. z.0) ys) known) (in_link y.0) (joined (map in_link (map (λ z. z.0) ys))) (good_link y.0 y.1 known) (good_links ys known)
 
-pub chain_good : (h : Chain) → GoodExpr (out-Chain h).first → (ys : List ((x : Link) × GoodLink x)) → map (λ y. y.0) ys ≡ (out-Chain h).others → GoodChain h
+chain_good : (h : Chain) → GoodExpr (out-Chain h).first → (ys : List ((x : Link) × GoodLink x)) → map (λ y. y.0) ys ≡ (out-Chain h).others → GoodChain h
 chain_good h g ys e known =
     let first = (out-Chain h).first in
     let P : List Link → Type 0 = λ ls. Same (expr_forms first known ++ each link_forms ls known) (in_expr first ++ joined (map in_link ls)) in
     let ls = map (λ y. y.0) ys in
     same_is _ _ _ _ (finding.chain_is h known) (rules.chain_is h)
     (subst P e (both (expr_forms first known) (each link_forms ls known) (in_expr first) (joined (map in_link ls)) (g known) (good_links ys known)))
+
+-- ---- every expression
+
+goods : ExprGoods GoodExpr GoodField GoodCall GoodChain GoodOperation GoodPlace
+goods = record { literal = good_literal; named = good_place; called = good_call; operating = good_operation; chained = good_chain; negated = good_negate; denied = good_not; text = good_text; formal = good_formal; plain = good_plain; place = place_good; call = call_good; operation = operation_good; chain = chain_good }
+
+pub every_expr : (x : Expr) → GoodExpr x
+every_expr = inductive_expr goods
+
+pub every_place : (x : Place) → GoodPlace x
+every_place = inductive_place goods
+
+pub every_call : (x : Call) → GoodCall x
+every_call = inductive_call goods
+
+pub every_operation : (x : Operation) → GoodOperation x
+every_operation = inductive_operation goods

@@ -33,6 +33,7 @@ use Rattle.cl_sig.specs.declared.signature.Kind.TheVariants as kinds
 use Rattle.cl_sig.specs.declared.signature.Mark.{Mark}
 use Rattle.cl_sig.specs.declared.signature.Mark.TheVariants as marks
 
+-- the kind of a signature, by the word of the operation
 abbrev pub kind_of : Verb → Kind
 kind_of verbs.Out = kinds.Out
 kind_of verbs.In = kinds.In
@@ -52,6 +53,7 @@ abbrev pub told_or_typed : FieldType → Checked Value → Mark
 told_or_typed type (Ok v) = marks.Constant v
 told_or_typed type (Err t) = marks.Actual type
 
+-- what is told of a constant as a field: its value, or its type alone where its minus traps
 abbrev pub number_mark : Number → Mark
 number_mark n = told_or_typed (type_of (literal n.literal)) (number_gives n)
 
@@ -61,6 +63,7 @@ bytes_rule (Field-F.Text text) = text.bytes
 bytes_rule (Field-F.Formal formal) = []
 bytes_rule (Field-F.Plain x) = []
 
+-- the bytes of a field that is a string; any other has none
 abbrev pub text_bytes : Field → List ℕ
 text_bytes field = bytes_rule (out-Field field)
 

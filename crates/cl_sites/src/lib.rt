@@ -6,7 +6,5 @@
 
 mod mark;
 mod site;
-#[cfg(test)]
-mod tests;
 
 pub use site::sites;

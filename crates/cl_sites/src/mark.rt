@@ -1,14 +1,15 @@
 ghost use Rattle.std.specs.Prelude.{◌≡◌, ◌++◌, OnOk, IfOk};
-ghost use Rattle.cl_value.specs.Room.{Room};
+ghost use Rattle.cl_ground.specs.Room.{Room};
 ghost use Rattle.cl_meaning.specs.Operators as operators;
 ghost use Rattle.cl_sites.specs.Sites.{number_gives, number_mark, text_bytes, mark_of, marks_of};
 
 use cl_ast::{Field, TypeName};
+use cl_ground::{Items, NoMemory};
 use cl_listing::Listing;
 use cl_sig::Mark;
 use cl_state::{literal, negated};
 use cl_types::{FieldForm, Number};
-use cl_value::{FieldType, Items, NoMemory, Trap, Value};
+use cl_value::{FieldType, Trap, Value};
 
 /// The type of a field that has a type of the language.
 fn field_type(of: TypeName) -> FieldType

@@ -1,5 +1,6 @@
+ghost use Rattle.cl_ground.specs.declared.limits.TheConstants.{MOST_FIELDS, MOST_SITES};
 ghost use Rattle.std.specs.Prelude.{◌≡◌, ◌<◌, ◌≤◌, length, map, All, IfOk};
-ghost use Rattle.cl_value.specs.Room.{Room};
+ghost use Rattle.cl_ground.specs.Room.{Room};
 ghost use Rattle.cl_sig.specs.Views.{plain_signature};
 ghost use Rattle.cl_listing.specs.Listing.{in_items};
 ghost use Rattle.cl_listing.specs.Listed.{sites_in};
@@ -8,10 +9,10 @@ ghost use Rattle.cl_sites.specs.Sites.{kind_of, signature_of, signatures_of};
 
 use crate::mark::add_marks;
 use cl_ast::Verb;
+use cl_ground::{Items, NoMemory};
 use cl_listing::Listing;
 use cl_sig::{Kind, Signature};
 use cl_types::{Site, Typed};
-use cl_value::{Items, NoMemory};
 use std::alloc::Global;
 
 /// Which operation it is.
@@ -83,9 +84,9 @@ fn signatures(
 pub fn sites(alloc: Global, typed: &Typed) -> Result<Items<Signature>, NoMemory>
     ensures sites { IfOk result (λ sites. map plain_signature sites.items ≡ signatures_of typed.now.items) }
     ensures places { IfOk result (λ sites. map (λ s. s.place) sites.items ≡ sites_in (in_items typed.now.items)) }
-    ensures few { IfOk result (λ sites. length sites.items ≤ 1024) }
+    ensures few { IfOk result (λ sites. length sites.items ≤ MOST_SITES) }
     ensures filled { IfOk result (λ sites. All (λ s. 0 < length s.fields.items) sites.items) }
-    ensures narrow { IfOk result (λ sites. All (λ s. length s.fields.items ≤ 16) sites.items) }
+    ensures narrow { IfOk result (λ sites. All (λ s. length s.fields.items ≤ MOST_FIELDS) sites.items) }
 {
     let Ok(found) = typed.sites(alloc) else {
         return Err(NoMemory);

@@ -7,9 +7,11 @@ use Rattle.cl_meaning.specs.Variables.{Scope, is_named}
 use Rattle.cl_state.specs.declared.variable.Variable.{Variable}
 use Rattle.cl_state.specs.declared.scope.TheConstants.{FEW}
 
+-- a variable as the meaning has it
 abbrev pub variable_of : Variable → plain.Variable
 variable_of v = record { name = v.name.now; of = v.of; values = v.values.items }
 
+-- variables as a scope of the meaning
 abbrev pub scope_of : List Variable → Scope
 scope_of vs = map variable_of vs
 
@@ -37,6 +39,7 @@ abbrev pub inner_or : Option (ℕ × ℕ) → Option ℕ → Option (ℕ × ℕ)
 inner_or (Some p) here = Some (suc p.0, p.1)
 inner_or None here = option_map (λ k. (0, k)) here
 
+-- the place of the innermost variable of a name, where the outermost scope comes first
 abbrev pub innermost : Name → List Scope → Option (ℕ × ℕ)
 innermost name [] = None
 innermost name (s ∷ ss) = inner_or (innermost name ss) (place_in name s)

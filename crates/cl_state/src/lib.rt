@@ -5,8 +5,6 @@ mod arithmetic;
 mod globals;
 mod locals;
 mod scope;
-#[cfg(test)]
-mod tests;
 mod variable;
 
 pub use arithmetic::{converted, is_zero, literal, negated, number, operated, truth, zero_of};

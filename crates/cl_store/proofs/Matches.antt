@@ -4,7 +4,7 @@ use Rattle.std.proofs.lemmas.Bool.{cases_Bool}
 use Rattle.std.proofs.lemmas.List.{map-append, take-map, drop-map, length-map, length-take-le, take_more}
 use Rattle.std.proofs.lemmas.List.Elements.{All-append, All-take, All-drop, All-head, All-tail}
 use Rattle.std.proofs.Math.Seq.{split_at}
-use Rattle.std.proofs.lemmas.Option.{slice_get_within, get_or_from_slice_get, slice_get-map}
+use Rattle.std.proofs.lemmas.Option.{slice_get_within, slice_get-map}
 use Rattle.std.specs.Prelude.{option_map, slice_get, remove, All}
 use Rattle.std.specs.List.{list_all}
 use Rattle.cl_store.proofs.Same.{both}
@@ -124,17 +124,9 @@ view_within v xs m i h = rw (length-map xs v) at (first_match-within (map v xs) 
 pub view_found : {A : Type 0} (v : A → List Value) (xs : List A) (m : List Slot) (i : ℕ) (x : A) → first_match (map v xs) m ≡ Some i → slice_get xs i ≡ Some x → found (map v xs) m ≡ Some (v x)
 view_found v xs m i x h at = found-at (map v xs) m i h ∙ (slice_get-map v xs i ∙ ap (option_map v) at)
 
--- without the first match are the views of the list without that place
-pub view_without : {A : Type 0} (v : A → List Value) (xs : List A) (m : List Slot) (i : ℕ) → first_match (map v xs) m ≡ Some i → map v (remove xs i) ≡ without_first (map v xs) m
-view_without v xs m i h = map-remove v xs i ∙ sym (without_first-at (map v xs) m i h)
-
 -- what holds of each item still holds of each where one is removed
 pub All-remove : {A : Type 0} (P : A → Type 0) (xs : List A) (i : ℕ) → All P xs → All P (remove xs i)
 All-remove P xs i all = All-append P _ _ (All-take P i xs all) (All-drop P (suc i) xs all)
-
--- what holds of each item holds of one that stands in the list
-pub All-slice_get : {A : Type 0} (P : A → Type 0) (xs : List A) (i : ℕ) (x : A) → All P xs → slice_get xs i ≡ Some x → P x
-All-slice_get P xs i x all at = subst P (get_or_from_slice_get xs i x x at) (all i x (slice_get_within xs i x at))
 
 -- where nothing is found, the list without its first match is the list
 pub without_first-none : (ts : List (List Value)) (m : List Slot) → found ts m ≡ None → without_first ts m ≡ ts

@@ -1,15 +1,13 @@
 -- Facts about asks that are played one after another.
 use Rattle.std.proofs.Common.{◌≡◌, ℕ, zero, suc, ◌+◌, ◌<◌, List, [], ◌∷◌, ◌++◌, length, map, get_or, drop, Some, None, refl, sym, ◌∙◌, ap, arith, subst, append_assoc}
-use Rattle.std.proofs.lemmas.List.{drop-map, map-append}
-use Rattle.std.proofs.lemmas.List.Elements.{All-head, All-append, All-push, All-drop, All-weaker, All-contains, All-contains_itself, Contains-append_left, Contains-append_right}
+use Rattle.std.proofs.lemmas.List.{drop-map}
+use Rattle.std.proofs.lemmas.List.Elements.{All-head, All-append, All-drop, All-weaker, All-contains, All-contains_itself, Contains-append_left, Contains-append_right}
 use Rattle.std.proofs.Math.Seq.{drop-cons}
 use Rattle.std.specs.Prelude.{All, Contains}
 use Rattle.cl_store.proofs.Matches.{All-without_first}
 use Rattle.cl_store.specs.Answers.{answer, answers, left_after, tuple_of, tuples_of, template_of, templates_of, IsStoreAsk, take_answer, read_answer, take_now_answer, read_now_answer}
 use Rattle.cl_value.specs.Plain.{PlainAsk, Out, In, Rd, Inp, Rdp, Eval, Land, PlainWhat}
 use Rattle.cl_value.specs.Replay.{found, replayed}
-use Rattle.cl_value.specs.Views.{plain_ask}
-use Rattle.cl_value.specs.declared.request.Ask.{Ask}
 use Rattle.cl_value.specs.declared.value.Value.{Value}
 use Rattle.cl_value.specs.declared.template.Slot.{Slot}
 
@@ -96,9 +94,3 @@ answers-next all whats ts us ask rest asks what h split is after =
 pub left_after-push : (ts : List (List Value)) (whats : List PlainWhat) (what : PlainWhat) → left_after ts (whats ++ what ∷ []) ≡ replayed (left_after ts whats) what
 left_after-push ts [] what = refl
 left_after-push ts (w ∷ whats) what = left_after-push (replayed ts w) whats what
-
--- asks of a store, and one more
-pub All-asks-push : (asks : List Ask) (ask : Ask) → All IsStoreAsk (map plain_ask asks) → IsStoreAsk (plain_ask ask) → All IsStoreAsk (map plain_ask (asks ++ ask ∷ []))
-All-asks-push asks ask before own =
-    let P : List PlainAsk → Type 0 = λ plain. All IsStoreAsk plain in
-    subst P (sym (map-append plain_ask asks (ask ∷ []))) (All-push IsStoreAsk (map plain_ask asks) (plain_ask ask) before own)

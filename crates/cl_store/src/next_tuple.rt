@@ -1,4 +1,5 @@
-use cl_value::{Items, NoMemory, Tuple, Value};
+use cl_ground::{Items, NoMemory};
+use cl_value::{Tuple, Value};
 use std::alloc::Global;
 use std::marker::Model;
 use std::mem::replace;
@@ -26,7 +27,7 @@ impl Model for NextTuple {
 
 impl NextTuple {
     ghost use Rattle.std.specs.Prelude.{◌≡◌, ◌<◌, length, IsOk, OnOk, OnErr};
-    ghost use Rattle.cl_value.specs.Room.{Room};
+    ghost use Rattle.cl_ground.specs.Room.{Room};
 
     /// No memory is ready. It keeps the allocator for later.
     pub fn new(alloc: Global) -> NextTuple

@@ -5,7 +5,8 @@ ghost use Rattle.cl_store.specs.Answers.{answer, answers, left_after, tuple_of, 
 ghost use Rattle.cl_value.specs.declared.value.Value.{Value};
 
 use crate::TupleStore;
-use cl_value::{Ask, Items, NoMemory, Steps, Template, Tuple, What};
+use cl_ground::{Items, NoMemory};
+use cl_value::{Ask, Steps, Template, Tuple, What};
 use std::alloc::Global;
 use std::sync::ledger::Ledger;
 

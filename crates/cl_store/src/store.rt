@@ -1,4 +1,5 @@
-use cl_value::{NoMemory, Steps, Template, Tuple};
+use cl_ground::NoMemory;
+use cl_value::{Steps, Template, Tuple};
 use std::sync::ledger::Ledger;
 
 /// A list of tuples in order of adding, out of which the first that matches is taken or read. (Linda:
@@ -7,10 +8,11 @@ use std::sync::ledger::Ledger;
 /// Only `reserve` takes memory, so that a caller makes all its growths before its first effect.
 pub trait TupleStore {
     ghost use Rattle.std.specs.Prelude.{◌≡◌, ◌+◌, ◌≤◌, ℕ, Bool, true, false, List, [], ◌∷◌, ◌++◌, length, is_some, IsTrue, IsOk, OnOk, OnErr, Some};
-    ghost use Rattle.cl_value.specs.Room.{HasRoom, capacity_of};
+    ghost use Rattle.cl_ground.specs.Room.{HasRoom, capacity_of};
     ghost use Rattle.cl_value.specs.Replay.{first_match, found, without_first};
     ghost use Rattle.cl_value.specs.declared.value.Value.{Value};
     ghost use Rattle.cl_value.specs.declared.template.Slot.{Slot};
+    ghost use Rattle.cl_ground.specs.declared.limits.TheConstants.{MOST_FIELDS};
 
     /// The tuples in order of adding.
     ghost content: { Self → List (List Value) };
@@ -57,7 +59,7 @@ pub trait TupleStore {
         steps: &mut Steps<L>,
     ) -> bool
         requires fits { IsTrue (fits self.old (content self.old) template.now.items) }
-        requires room { HasRoom 16 into.old }
+        requires room { HasRoom MOST_FIELDS into.old }
         ensures value { result ≡ is_some (first_match (content self.old) template.now.items) }
         ensures taken { result ≡ true → found (content self.old) template.now.items ≡ Some into.new.items }
         ensures left { result ≡ true → content self.new ≡ without_first (content self.old) template.now.items }
@@ -72,7 +74,7 @@ pub trait TupleStore {
     /// exactly where none matches, and then `into` stays. It takes no memory.
     fn find<L: Ledger>(&self, template: &Template, into: &mut Tuple, steps: &mut Steps<L>) -> bool
         requires fits { IsTrue (fits self.now (content self.now) template.now.items) }
-        requires room { HasRoom 16 into.old }
+        requires room { HasRoom MOST_FIELDS into.old }
         ensures value { result ≡ is_some (first_match (content self.now) template.now.items) }
         ensures read { result ≡ true → found (content self.now) template.now.items ≡ Some into.new.items }
         ensures unchanged { result ≡ false → into.new ≡ into.old }

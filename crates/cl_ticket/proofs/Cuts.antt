@@ -3,11 +3,11 @@ use Rattle.std.proofs.Common.{◌≡◌, ℕ, ◌+◌, ◌<◌, List, [], ◌∷
 use mathlib.Core.Option.{some}
 use lib.ListN.{get_elem?}
 use Rattle.cl_ticket.specs.Weights.{weigh, under, Each}
-use Rattle.cl_ticket.specs.Rule.{opening_view, process_view, of_persons, evals, births, known, marks, FitsPerson, FitsHalt, FitsUnborn, halters, Holds}
+use Rattle.cl_ticket.specs.Rule.{opening_view, process_view, of_participants, evals, births, known, marks, FitsParticipant, FitsHalt, FitsUnborn, halters, Holds}
 use Rattle.cl_ticket.specs.Steps.{left_opening, right_opening, left_last, left_leave, right_leave, left_born, right_born, first_born}
 use mathlib.Core.List.{IsPrefix}
 use Rattle.cl_value.specs.Plain.{PlainAct}
-use Rattle.cl_ticket.specs.Persons.{Person, Mark, Birth}
+use Rattle.cl_ticket.specs.Participants.{Participant, Mark, Birth}
 use Rattle.cl_ticket.specs.declared.view.View.{View}
 use Rattle.cl_ticket.proofs.Keeps.{Balances, cuts}
 
@@ -26,21 +26,21 @@ begins = record {
 }
 
 opens-balances : (k : ℕ) → Balances (opening_view k ∷ []) (left_opening (opening_view k) ∷ right_opening (opening_view k) ∷ [])
-opens-balances k = record { sets = λ h. refl; persons = λ h. refl; born = λ h. refl; numbered = λ h. omega arith; root = refl; quiet = omega arith; grown = λ h. omega arith; marked = λ x. omega arith }
+opens-balances k = record { sets = λ h. refl; participants = λ h. refl; born = λ h. refl; numbered = λ h. omega arith; root = refl; quiet = omega arith; grown = λ h. omega arith; marked = λ x. omega arith }
 
 -- a set is opened
 pub opens : (words : List ℕ) (views : List View) (id k : ℕ) → k < 1024 → Holds words views → get_elem? views id ≡ some (opening_view k) → Holds words (set views id (left_opening (opening_view k)) ++ right_opening (opening_view k) ∷ [])
 opens words views id k lt h e = cuts words views id (opening_view k) (left_opening (opening_view k)) (right_opening (opening_view k)) h e (opens-balances k) (λ f. ((tt, tt, (omega arith, tt), tt), (((tt, omega arith), tt), tt, tt, tt))) (λ history none m. ((tt, tt), ((sym (none (omega arith) k), tt), tt))) (λ m. ((λ x. (tt, tt)), refl))
 
 last-balances : (k : ℕ) → Balances (opening_view k ∷ []) (left_last (opening_view k) ∷ right_opening (opening_view k) ∷ [])
-last-balances k = record { sets = λ h. refl; persons = λ h. refl; born = λ h. refl; numbered = λ h. omega arith; root = refl; quiet = omega arith; grown = λ h. omega arith; marked = λ x. omega arith }
+last-balances k = record { sets = λ h. refl; participants = λ h. refl; born = λ h. refl; numbered = λ h. omega arith; root = refl; quiet = omega arith; grown = λ h. omega arith; marked = λ x. omega arith }
 
 -- the last set is opened
 pub opens-last : (words : List ℕ) (views : List View) (id k : ℕ) → k < 1024 → Holds words views → get_elem? views id ≡ some (opening_view k) → Holds words (set views id (left_last (opening_view k)) ++ right_opening (opening_view k) ∷ [])
 opens-last words views id k lt h e = cuts words views id (opening_view k) (left_last (opening_view k)) (right_opening (opening_view k)) h e (last-balances k) (λ f. ((tt, ((tt, tt, omega arith), tt), tt, tt), (((tt, omega arith), tt), tt, tt, tt))) (λ history none m. ((tt, (tt, tt)), ((sym (none (omega arith) k), tt), tt))) (λ m. ((λ x. ((((λ failed. absurd (true≢false (sym failed))), tt), tt), tt)), refl))
 
 leave-balances : (v : View) → Balances (v ∷ []) (left_leave v ∷ right_leave v ∷ [])
-leave-balances v = record { sets = λ h. omega arith; persons = λ h. omega arith; born = λ h. omega arith; numbered = λ h. omega arith; root = omega arith; quiet = omega arith; grown = λ h. omega arith; marked = λ x. omega arith }
+leave-balances v = record { sets = λ h. omega arith; participants = λ h. omega arith; born = λ h. omega arith; numbered = λ h. omega arith; root = omega arith; quiet = omega arith; grown = λ h. omega arith; marked = λ x. omega arith }
 
 -- who stands in a set leaves it
 pub leaves : (words : List ℕ) (views : List View) (id : ℕ) (v : View) → Holds words views → get_elem? views id ≡ some v → Holds words (set views id (left_leave v) ++ right_leave v ∷ [])
@@ -62,7 +62,7 @@ each-rest : (P : Birth → Type 0) (l : List Birth) → Each P l → Each P (dro
 each-rest P [] all = tt
 each-rest P (b ∷ more) all = all.1
 
-born-fits : (u : List Birth) → Each FitsPerson (first_born u)
+born-fits : (u : List Birth) → Each FitsParticipant (first_born u)
 born-fits [] = tt
 born-fits (b ∷ more) = ((tt, tt, omega arith), tt)
 
@@ -74,7 +74,7 @@ born-halters : (m : ℕ) (u : List Birth) → halters m (process_view (first_bor
 born-halters m [] = refl
 born-halters m (b ∷ more) = refl
 
-born-marks : (history : ℕ → List PlainAct) (u : List Birth) → Each (λ (p : Person). Each (λ (m : Mark). IsPrefix m.acts (history m.set)) p.full) (first_born u)
+born-marks : (history : ℕ → List PlainAct) (u : List Birth) → Each (λ (p : Participant). Each (λ (m : Mark). IsPrefix m.acts (history m.set)) p.full) (first_born u)
 born-marks history [] = tt
 born-marks history (b ∷ more) = (tt, tt)
 
@@ -82,14 +82,14 @@ born-unmarked : (x : ℕ) (u : List Birth) → marks x (process_view (first_born
 born-unmarked x [] = refl
 born-unmarked x (b ∷ more) = refl
 
-born-acts : (h : _) (u : List Birth) → of_persons h (process_view (first_born u)) ≡ 0
+born-acts : (h : _) (u : List Birth) → of_participants h (process_view (first_born u)) ≡ 0
 born-acts h [] = refl
 born-acts h (b ∷ more) = refl
 
 born-balances : (v : View) → Balances (v ∷ []) (left_born v ∷ right_born v ∷ [])
 born-balances v = record {
   sets = λ h. omega arith;
-  persons = λ h. omega (arith, born-acts h v.unborn);
+  participants = λ h. omega (arith, born-acts h v.unborn);
   born = λ h. let a = born-weighs h v.unborn in let b = born-evals h v.unborn in omega arith;
   numbered = λ h. omega (arith, born-known (under h) v.unborn);
   root = omega (arith, born-known (λ k. 1) v.unborn);

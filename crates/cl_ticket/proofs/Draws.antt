@@ -3,11 +3,11 @@ use Rattle.std.proofs.Common.{eq-eqb, ◌≡◌, ℕ, zero, suc, ◌+◌, ◌-�
 use mathlib.Core.Option.{some}
 use lib.ListN.{get_elem?}
 use Rattle.cl_ticket.specs.Weights.{weigh, under, Each}
-use Rattle.cl_ticket.specs.Rule.{FitsUnborn, of_ticket, set_view, name_of, depth_of, by_birth, by_root, if_eval, in_sets, of_persons, evals, births, numbers, known, opened, Rises, Fits, FitsSet, FitsPerson, Ruled}
+use Rattle.cl_ticket.specs.Rule.{FitsUnborn, of_ticket, set_view, name_of, depth_of, by_birth, by_root, if_eval, in_sets, of_participants, evals, births, numbers, known, opened, Rises, Fits, FitsSet, FitsParticipant, Ruled}
 use Rattle.cl_ticket.specs.Steps.{with_act, plain_history, act_of, drawn_view, unborn_after}
 use Rattle.cl_value.specs.Plain.{PlainWhat, PlainAct, PlainHistory}
 use Rattle.cl_value.specs.Acts.{is_eval}
-use Rattle.cl_ticket.specs.Persons.{Birth, Origin, Root, Born, Person}
+use Rattle.cl_ticket.specs.Participants.{Birth, Origin, Root, Born, Participant}
 use Rattle.cl_ticket.specs.declared.view.View.{View}
 use Rattle.cl_ticket.proofs.Sums.{weigh-append, weigh-at, weigh-none, weigh-most, weigh-less, weigh-plus, weigh-count, upto-none, upto-count, under-count, each-at, each-set, each-append, each-map}
 use Rattle.cl_ticket.proofs.Keeps.{replaces-one}
@@ -28,13 +28,13 @@ sets-within n views id v r e =
     let all : in_sets (past n) v ≡ 0 = let a = weigh-at (in_sets (past n)) views id v e in let b = none-past n views r in omega arith in
     each-map (λ (s : PlainHistory). weigh (past n) s.acts ≡ 0) (λ (s : PlainHistory). Each (λ (a : PlainAct). a.ticket < suc n) s.acts) v.sets (λ s z. upto-within n s.acts (weigh-none (past n) s.acts z)) (weigh-none (λ (s : PlainHistory). weigh (past n) s.acts) v.sets all)
 
-persons-past : (n : ℕ) (views : List View) (id : ℕ) (v : View) → Ruled n views → get_elem? views id ≡ some v → of_persons (past n) v ≡ 0
-persons-past n views id v r e = let a = weigh-at (of_persons (past n)) views id v e in let b = none-past n views r in let c = r.owners (past n) in omega arith
+participants-past : (n : ℕ) (views : List View) (id : ℕ) (v : View) → Ruled n views → get_elem? views id ≡ some v → of_participants (past n) v ≡ 0
+participants-past n views id v r e = let a = weigh-at (of_participants (past n)) views id v e in let b = none-past n views r in let c = r.owners (past n) in omega arith
 
--- nor is one that a person has
-pub persons-within : (n : ℕ) (views : List View) (id : ℕ) (v : View) → Ruled n views → get_elem? views id ≡ some v → Each (λ (p : Person). Each (λ (a : PlainAct). a.ticket < suc n) p.acts) v.persons
-persons-within n views id v r e =
-    each-map (λ (p : Person). weigh (past n) p.acts ≡ 0) (λ (p : Person). Each (λ (a : PlainAct). a.ticket < suc n) p.acts) v.persons (λ p z. upto-within n p.acts (weigh-none (past n) p.acts z)) (weigh-none (λ (p : Person). weigh (past n) p.acts) v.persons (persons-past n views id v r e))
+-- nor is one that a participant has
+pub participants-within : (n : ℕ) (views : List View) (id : ℕ) (v : View) → Ruled n views → get_elem? views id ≡ some v → Each (λ (p : Participant). Each (λ (a : PlainAct). a.ticket < suc n) p.acts) v.participants
+participants-within n views id v r e =
+    each-map (λ (p : Participant). weigh (past n) p.acts ≡ 0) (λ (p : Participant). Each (λ (a : PlainAct). a.ticket < suc n) p.acts) v.participants (λ p z. upto-within n p.acts (weigh-none (past n) p.acts z)) (weigh-none (λ (p : Participant). weigh (past n) p.acts) v.participants (participants-past n views id v r e))
 
 eval-less : (h : PlainAct → ℕ) (d : ℕ) (l : List PlainAct) → weigh (λ (a : PlainAct). if_eval (is_eval a.what) (h a)) l ≤ weigh h l
 eval-less h d l = weigh-less (λ (a : PlainAct). if_eval (is_eval a.what) (h a)) h (λ a. one (is_eval a.what) (h a)) l
@@ -43,15 +43,15 @@ eval-less h d l = weigh-less (λ (a : PlainAct). if_eval (is_eval a.what) (h a))
     one true n = omega arith
     one false n = omega arith
 
--- the evals of persons are among their acts
-evals-less : (h : PlainAct → ℕ) (v : View) → evals (λ b. h b.act) v ≤ of_persons h v
-evals-less h v = weigh-less (λ (p : Person). weigh (λ (a : PlainAct). if_eval (is_eval a.what) (h a)) p.acts) (λ (p : Person). weigh h p.acts) (λ p. eval-less h 0 p.acts) v.persons
+-- the evals of participants are among their acts
+evals-less : (h : PlainAct → ℕ) (v : View) → evals (λ b. h b.act) v ≤ of_participants h v
+evals-less h v = weigh-less (λ (p : Participant). weigh (λ (a : PlainAct). if_eval (is_eval a.what) (h a)) p.acts) (λ (p : Participant). weigh h p.acts) (λ p. eval-less h 0 p.acts) v.participants
 
 pub births-less : (h : PlainAct → ℕ) (n : ℕ) (views : List View) → Ruled n views → weigh (births (λ b. h b.act)) views ≤ weigh (in_sets h) views
-births-less h n views r = let a = weigh-less (evals (λ b. h b.act)) (of_persons h) (evals-less h) views in let b = r.owners h in let c = r.born (λ b. h b.act) in omega arith
+births-less h n views r = let a = weigh-less (evals (λ b. h b.act)) (of_participants h) (evals-less h) views in let b = r.owners h in let c = r.born (λ b. h b.act) in omega arith
 
--- The name of a person is at most the number of acts
-pub name-within : (n : ℕ) (views : List View) (id : ℕ) (p : Person) (rest : List Person) (s : PlainHistory) (u : List Birth) → Ruled n views → get_elem? views id ≡ some (set_view s (p ∷ rest) u) → (o : Origin) → p.origin ≡ o → name_of o < suc n
+-- The name of a participant is at most the number of acts
+pub name-within : (n : ℕ) (views : List View) (id : ℕ) (p : Participant) (rest : List Participant) (s : PlainHistory) (u : List Birth) → Ruled n views → get_elem? views id ≡ some (set_view s (p ∷ rest) u) → (o : Origin) → p.origin ≡ o → name_of o < suc n
 name-within n views id p rest s u r e (Root k) is = omega arith
 name-within n views id p rest s u r e (Born b) is =
     let a = births-less (past n) n views r in
@@ -60,10 +60,10 @@ name-within n views id p rest s u r e (Born b) is =
     let q : by_birth (λ b. past n b.act) p.origin ≡ past n b.act = ap (by_birth (λ b. past n b.act)) is in
     omega arith
 
--- Where a person stands, nobody opens the table
-pub no-opening : (n : ℕ) (views : List View) (id : ℕ) (p : Person) (rest : List Person) (s : PlainHistory) (u : List Birth) → Ruled n views → get_elem? views id ≡ some (set_view s (p ∷ rest) u) → (o : Origin) → p.origin ≡ o → weigh opened views ≡ 0
+-- Where a participant stands, nobody opens the table
+pub no-opening : (n : ℕ) (views : List View) (id : ℕ) (p : Participant) (rest : List Participant) (s : PlainHistory) (u : List Birth) → Ruled n views → get_elem? views id ≡ some (set_view s (p ∷ rest) u) → (o : Origin) → p.origin ≡ o → weigh opened views ≡ 0
 no-opening n views id p rest s u r e (Root k) is =
-    let roots : View → ℕ = λ v. weigh (λ (q : Person). by_root (λ k. 1) q.origin) v.persons in
+    let roots : View → ℕ = λ v. weigh (λ (q : Participant). by_root (λ k. 1) q.origin) v.participants in
     let a : weigh (known (λ k. 1)) views ≡ weigh opened views + weigh roots views = weigh-plus (known (λ k. 1)) opened roots (λ v. let c = weigh-count v.opening in omega arith) views in
     let b = weigh-at roots views id (set_view s (p ∷ rest) u) e in
     let q : by_root (λ k. 1) p.origin ≡ 1 = ap (by_root (λ k. 1)) is in
@@ -101,7 +101,7 @@ few-acts n views r =
     opened-most : (v : View) → Fits v → known (under (λ k. 1)) v ≤ 1024 * known (λ k. 1) v
     opened-most v f =
         let a = weigh-most (under (λ k. 1)) (λ k. 1) 1024 v.opening (each-map (λ k. k ≤ 1024) (λ k. under (λ k. 1) k ≤ 1024 * 1) v.opening (λ k le. let c = under-count k in omega arith) f.2) in
-        let b = weigh-most (λ (p : Person). by_root (under (λ k. 1)) p.origin) (λ (p : Person). by_root (λ k. 1) p.origin) 1024 v.persons (each-map FitsPerson (λ (p : Person). by_root (under (λ k. 1)) p.origin ≤ 1024 * by_root (λ k. 1) p.origin) v.persons (λ p g. by_origin p.origin g.2) f.1) in
+        let b = weigh-most (λ (p : Participant). by_root (under (λ k. 1)) p.origin) (λ (p : Participant). by_root (λ k. 1) p.origin) 1024 v.participants (each-map FitsParticipant (λ (p : Participant). by_root (under (λ k. 1)) p.origin ≤ 1024 * by_root (λ k. 1) p.origin) v.participants (λ p g. by_origin p.origin g.2) f.1) in
         omega arith
 
 rises-more : (m t : ℕ) (l : List PlainAct) (a : PlainAct) → Rises m l → m < t → Each (λ (x : PlainAct). x.ticket < t) l → a.ticket ≡ t → Rises m (l ++ a ∷ [])
@@ -112,7 +112,7 @@ unborn-weighs : (h : Birth → ℕ) (e : Bool) (b : Birth) (u : List Birth) → 
 unborn-weighs h true b u = refl
 unborn-weighs h false b u = omega arith
 
-module _ (n : ℕ) (s : PlainHistory) (p : Person) (rest : List Person) (u : List Birth) (site : ℕ) (what : PlainWhat) where
+module _ (n : ℕ) (s : PlainHistory) (p : Participant) (rest : List Participant) (u : List Birth) (site : ℕ) (what : PlainWhat) where
   abbrev before : View
   before = set_view s (p ∷ rest) u
 
@@ -128,8 +128,8 @@ module _ (n : ℕ) (s : PlainHistory) (p : Person) (rest : List Person) (u : Lis
   more-in-set : (h : PlainAct → ℕ) → in_sets h after ≡ in_sets h before + h drawn
   more-in-set h = let a = weigh-append h s.acts (drawn ∷ []) in omega arith
 
-  more-of-persons : (h : PlainAct → ℕ) → of_persons h after ≡ of_persons h before + h drawn
-  more-of-persons h = let a = weigh-append h p.acts (drawn ∷ []) in omega arith
+  more-of-participants : (h : PlainAct → ℕ) → of_participants h after ≡ of_participants h before + h drawn
+  more-of-participants h = let a = weigh-append h p.acts (drawn ∷ []) in omega arith
 
   more-evals : (h : Birth → ℕ) → evals h after ≡ evals h before + if_eval (is_eval what) (h made)
   more-evals h = let a = weigh-append (λ (x : PlainAct). if_eval (is_eval x.what) (h record { act = x; depth = suc (depth_of p.origin) })) p.acts (drawn ∷ []) in omega arith
@@ -150,18 +150,18 @@ module _ (n : ℕ) (s : PlainHistory) (p : Person) (rest : List Person) (u : Lis
       let re = replaces-one views id before after at in
       let fits : Fits before = each-at Fits views id before at r.fits in
       let fits_set : FitsSet s = fits.0.0 in
-      let fits_person : FitsPerson p = fits.1.0 in
+      let fits_participant : FitsParticipant p = fits.1.0 in
       let old_set : Each (λ (a : PlainAct). a.ticket < suc n) s.acts = (sets-within n views id before r at).0 in
-      let old_person : Each (λ (a : PlainAct). a.ticket < suc n) p.acts = (persons-within n views id before r at).0 in
+      let old_participant : Each (λ (a : PlainAct). a.ticket < suc n) p.acts = (participants-within n views id before r at).0 in
       let name : name_of p.origin < suc n = name-within n views id p rest s u r at p.origin refl in
       let closed : weigh opened views ≡ 0 = no-opening n views id p rest s u r at p.origin refl in
       let now_set : FitsSet (plain_history s.set (s.acts ++ drawn ∷ [])) = (rises-more 0 (suc n) s.acts drawn fits_set.0 (omega arith) old_set refl, let l = length-append s.acts (drawn ∷ []) in omega arith) in
-      let now_person : FitsPerson (with_act p drawn) =
-      (rises-more (name_of p.origin) (suc n) p.acts drawn fits_person.0 name old_person refl, each-append (λ (a : PlainAct). a.proc ≡ name_of p.origin) p.acts (drawn ∷ []) fits_person.1 (refl, tt), fits_person.2) in
-      let now : Fits after = ((now_set, tt), (now_person, fits.1.1), tt, unborn-after (is_eval what) fits.3) in
+      let now_participant : FitsParticipant (with_act p drawn) =
+      (rises-more (name_of p.origin) (suc n) p.acts drawn fits_participant.0 name old_participant refl, each-append (λ (a : PlainAct). a.proc ≡ name_of p.origin) p.acts (drawn ∷ []) fits_participant.1 (refl, tt), fits_participant.2) in
+      let now : Fits after = ((now_set, tt), (now_participant, fits.1.1), tt, unborn-after (is_eval what) fits.3) in
       record {
         tickets = λ h. let a = re (in_sets (λ x. h x.ticket)) in let b = more-in-set (λ x. h x.ticket) in let t = r.tickets h in omega arith;
-        owners = λ h. let a = re (in_sets h) in let b = more-in-set h in let c = re (of_persons h) in let d = more-of-persons h in let t = r.owners h in omega arith;
+        owners = λ h. let a = re (in_sets h) in let b = more-in-set h in let c = re (of_participants h) in let d = more-of-participants h in let t = r.owners h in omega arith;
         born = λ h. let a = re (births h) in let b = more-births h in let c = re (evals h) in let d = more-evals h in let t = r.born h in omega arith;
         numbered = λ h. let a = re (numbers h) in let c = re (known (under h)) in let t = r.numbered h in omega arith;
         root = let c = re (known (λ k. 1)) in let t = r.root in omega arith;

@@ -7,8 +7,8 @@ use lib.ListN.{get_elem?}
 use Rattle.atomic_table.specs.Table.{State, Me, keeps, Allows}
 use Rattle.cl_ticket.specs.Weights.{weigh, Each}
 use Rattle.cl_ticket.specs.Rule.{process_view, name_of, if_eval, opened, is, marks, numbers, Agrees, Fits, FitsHistory, FitsHalt, halters, Holds}
-use Rattle.cl_ticket.specs.Steps.{name_at, with_halt, with_sight, standing, Halted, Sighted, person_in, others_in}
-use Rattle.cl_ticket.specs.Persons.{Person}
+use Rattle.cl_ticket.specs.Steps.{name_at, with_halt, with_sight, standing, Halted, Sighted, participant_in, others_in}
+use Rattle.cl_ticket.specs.Participants.{Participant}
 use Rattle.cl_ticket.specs.declared.view.View.{View}
 use Rattle.atomic_table.proofs.Lists.{set_here}
 use Rattle.cl_ticket.proofs.Sums.{at-within, weigh-set, weigh-at, each-at, each-set, each-map}
@@ -16,15 +16,15 @@ use Rattle.cl_ticket.proofs.Keeps.{Balances, listed-after, replaces-one}
 use Rattle.cl_ticket.proofs.Keeps as kept
 use Rattle.cl_ticket.proofs.Moves.{Kept}
 
--- the person with other marks of halting
-abbrev marked_so : Person → Bool → List (Option ℕ) → Person
+-- the participant with other marks of halting
+abbrev marked_so : Participant → Bool → List (Option ℕ) → Participant
 marked_so p f s = record { origin = p.origin; acts = p.acts; full = p.full; failed = f; saw = s }
 
-same-balance : (p : Person) (f : Bool) (s : List (Option ℕ)) (rest : List Person) → Balances (process_view (p ∷ rest) ∷ []) (process_view (marked_so p f s ∷ rest) ∷ [])
-same-balance p f s rest = record { sets = λ h. refl; persons = λ h. refl; born = λ h. refl; numbered = λ h. refl; root = refl; quiet = omega arith; grown = λ h. omega arith; marked = λ x. omega arith }
+same-balance : (p : Participant) (f : Bool) (s : List (Option ℕ)) (rest : List Participant) → Balances (process_view (p ∷ rest) ∷ []) (process_view (marked_so p f s ∷ rest) ∷ [])
+same-balance p f s rest = record { sets = λ h. refl; participants = λ h. refl; born = λ h. refl; numbered = λ h. refl; root = refl; quiet = omega arith; grown = λ h. omega arith; marked = λ x. omega arith }
 
--- A step that changes word 1 and what the person knows of it
-changes : (words : List ℕ) (views : List View) (id m : ℕ) (p : Person) (f : Bool) (s : List (Option ℕ)) (rest : List Person) (h : Holds words views) → get_elem? views id ≡ some (process_view (p ∷ rest))
+-- A step that changes word 1 and what the participant knows of it
+changes : (words : List ℕ) (views : List View) (id m : ℕ) (p : Participant) (f : Bool) (s : List (Option ℕ)) (rest : List Participant) (h : Holds words views) → get_elem? views id ≡ some (process_view (p ∷ rest))
     → (new : List ℕ) → new ≡ suc h.n ∷ m ∷ [] → Each (FitsHalt m) (set views id (process_view (marked_so p f s ∷ rest))) → (0 < m → 1 ≤ weigh (halters m) (set views id (process_view (marked_so p f s ∷ rest)))) → Holds new (set views id (process_view (marked_so p f s ∷ rest)))
 changes words views id m p f s rest h at new same_words halted halting =
     let v = process_view (p ∷ rest) in
@@ -49,23 +49,23 @@ changes words views id m p f s rest h at new same_words halted halting =
 
 -- what a name that is written first means for what was known before
 first-halt : (m : ℕ) (v : View) → FitsHalt 0 v → FitsHalt m v
-first-halt m v all = each-map (Agrees 0) (Agrees m) v.persons (λ p x. ((λ failed. let e = x.0 failed in absurd (omega arith)), each-map (λ (q : Option ℕ). IfSome q (λ name. 0 ≡ suc name)) (λ (q : Option ℕ). IfSome q (λ name. m ≡ suc name)) p.saw none-yet x.1)) all
+first-halt m v all = each-map (Agrees 0) (Agrees m) v.participants (λ p x. ((λ failed. let e = x.0 failed in absurd (omega arith)), each-map (λ (q : Option ℕ). IfSome q (λ name. 0 ≡ suc name)) (λ (q : Option ℕ). IfSome q (λ name. m ≡ suc name)) p.saw none-yet x.1)) all
   where
     none-yet : (q : Option ℕ) → IfSome q (λ name. 0 ≡ suc name) → IfSome q (λ name. m ≡ suc name)
     none-yet None e = e
     none-yet (Some name) e = absurd (omega arith)
 
-own-halter : (p : Person) (s : List (Option ℕ)) (rest : List Person) → 1 ≤ halters (suc (name_of p.origin)) (process_view (marked_so p true s ∷ rest))
+own-halter : (p : Participant) (s : List (Option ℕ)) (rest : List Participant) → 1 ≤ halters (suc (name_of p.origin)) (process_view (marked_so p true s ∷ rest))
 own-halter p s rest = let e : if_eval (eqb (suc (name_of p.origin)) (suc (name_of p.origin))) 1 ≡ 1 = ap (λ b. if_eval b 1) (eq-eqb (suc (name_of p.origin)) (suc (name_of p.origin)) refl) in omega arith
 
-more-halters : (m : ℕ) (p : Person) (s : List (Option ℕ)) (rest : List Person) → halters m (process_view (p ∷ rest)) ≤ halters m (process_view (marked_so p true s ∷ rest))
+more-halters : (m : ℕ) (p : Participant) (s : List (Option ℕ)) (rest : List Participant) → halters m (process_view (p ∷ rest)) ≤ halters m (process_view (marked_so p true s ∷ rest))
 more-halters m p s rest = by-flag p.failed
   where
-    by-flag : (b : Bool) → if_eval b (if_eval (eqb m (suc (name_of p.origin))) 1) + weigh (λ (q : Person). if_eval q.failed (if_eval (eqb m (suc (name_of q.origin))) 1)) rest ≤ if_eval (eqb m (suc (name_of p.origin))) 1 + weigh (λ (q : Person). if_eval q.failed (if_eval (eqb m (suc (name_of q.origin))) 1)) rest
+    by-flag : (b : Bool) → if_eval b (if_eval (eqb m (suc (name_of p.origin))) 1) + weigh (λ (q : Participant). if_eval q.failed (if_eval (eqb m (suc (name_of q.origin))) 1)) rest ≤ if_eval (eqb m (suc (name_of p.origin))) 1 + weigh (λ (q : Participant). if_eval q.failed (if_eval (eqb m (suc (name_of q.origin))) 1)) rest
     by-flag true = omega arith
     by-flag false = omega arith
 
-module _ (st : State (Unit {0}) View) (id : ℕ) (p : Person) (rest : List Person) (h : Holds st.words st.views) (at : get_elem? st.views id ≡ some (process_view (p ∷ rest))) where
+module _ (st : State (Unit {0}) View) (id : ℕ) (p : Participant) (rest : List Participant) (h : Holds st.words st.views) (at : get_elem? st.views id ≡ some (process_view (p ∷ rest))) where
   -- by what stood in word 1
   halt-by : (m : ℕ) → h.m ≡ m → (new : List ℕ) → new ≡ suc h.n ∷ standing (suc (name_of p.origin)) m ∷ [] → Holds new (set st.views id (process_view (with_halt p (standing (suc (name_of p.origin)) m) ∷ rest)))
   halt-by zero e new is =
@@ -111,7 +111,7 @@ stands-so : (mine m : ℕ) → either (m == 0) mine m ≡ standing mine m
 stands-so mine zero = refl
 stands-so mine (suc k) = ap (λ b. either b mine (suc k)) (ne_eqb (suc k) 0 (λ e. omega arith))
 
-halts : (slots id : ℕ) (p : Person) (rest : List Person) → Allows Kept slots id (process_view (p ∷ rest), []) 1 (λ n. either (n == 0) (suc (name_of p.origin)) n) (λ found after. Halted (suc (name_of p.origin)) (process_view (p ∷ rest)) found after.0 × (after.1 ≡ []))
+halts : (slots id : ℕ) (p : Participant) (rest : List Participant) → Allows Kept slots id (process_view (p ∷ rest), []) 1 (λ n. either (n == 0) (suc (name_of p.origin)) n) (λ found after. Halted (suc (name_of p.origin)) (process_view (p ∷ rest)) found after.0 × (after.1 ≡ []))
 halts slots id p rest st h homes at fits =
     let x = suc (name_of p.origin) in
     let found : slice_index st.words 1 ≡ h.m = ap (λ (l : List ℕ). slice_index l 1) h.at in
@@ -123,7 +123,7 @@ halts slots id p rest st h homes at fits =
       ((ap (λ (k : ℕ). process_view (with_halt p (standing x k) ∷ rest)) (sym found), subst (λ (k : ℕ). Each (Agrees (standing x k)) (p ∷ rest)) (sym found) (knows-by st id p rest h at h.m refl)), refl),
     )
 
-sights : (slots id : ℕ) (p : Person) (rest : List Person) → Allows Kept slots id (process_view (p ∷ rest), []) 1 (λ n. n) (λ found after. Sighted (process_view (p ∷ rest)) found after.0 × (after.1 ≡ []))
+sights : (slots id : ℕ) (p : Participant) (rest : List Participant) → Allows Kept slots id (process_view (p ∷ rest), []) 1 (λ n. n) (λ found after. Sighted (process_view (p ∷ rest)) found after.0 × (after.1 ≡ []))
 sights slots id p rest st h homes at fits =
     let found : slice_index st.words 1 ≡ h.m = ap (λ (l : List ℕ). slice_index l 1) h.at in
     let words : slice_set st.words 1 (slice_index st.words 1) ≡ suc h.n ∷ h.m ∷ [] = ap (λ (l : List ℕ). slice_set l 1 (slice_index l 1)) h.at in (
@@ -135,15 +135,15 @@ sights slots id p rest st h homes at fits =
     )
 
 -- the same, at a view that is known
-pub halts_as : (slots id mine : ℕ) (me : Me (Unit {0}) View) → me ≡ (process_view (person_in me.0.persons ∷ others_in me.0.persons), []) → mine ≡ suc (name_of (person_in me.0.persons).origin)
+pub halts_as : (slots id mine : ℕ) (me : Me (Unit {0}) View) → me ≡ (process_view (participant_in me.0.participants ∷ others_in me.0.participants), []) → mine ≡ suc (name_of (participant_in me.0.participants).origin)
     → Allows Kept slots id me 1 (λ n. either (n == 0) mine n) (λ found after. Halted mine me.0 found after.0 × (after.1 ≡ []))
 halts_as slots id mine me is name =
     subst (λ (k : ℕ). Allows Kept slots id me 1 (λ n. either (n == 0) k n) (λ found after. Halted k me.0 found after.0 × (after.1 ≡ []))) (sym name)
-    (subst (λ (x : Me (Unit {0}) View). Allows Kept slots id x 1 (λ n. either (n == 0) (suc (name_of (person_in me.0.persons).origin)) n) (λ found after. Halted (suc (name_of (person_in me.0.persons).origin)) x.0 found after.0 × (after.1 ≡ []))) (sym is)
-    (halts slots id (person_in me.0.persons) (others_in me.0.persons)))
+    (subst (λ (x : Me (Unit {0}) View). Allows Kept slots id x 1 (λ n. either (n == 0) (suc (name_of (participant_in me.0.participants).origin)) n) (λ found after. Halted (suc (name_of (participant_in me.0.participants).origin)) x.0 found after.0 × (after.1 ≡ []))) (sym is)
+    (halts slots id (participant_in me.0.participants) (others_in me.0.participants)))
 
-pub sights_as : (slots id : ℕ) (me : Me (Unit {0}) View) → me ≡ (process_view (person_in me.0.persons ∷ others_in me.0.persons), []) → Allows Kept slots id me 1 (λ n. n) (λ found after. Sighted me.0 found after.0 × (after.1 ≡ []))
-sights_as slots id me is = subst (λ (x : Me (Unit {0}) View). Allows Kept slots id x 1 (λ n. n) (λ found after. Sighted x.0 found after.0 × (after.1 ≡ []))) (sym is) (sights slots id (person_in me.0.persons) (others_in me.0.persons))
+pub sights_as : (slots id : ℕ) (me : Me (Unit {0}) View) → me ≡ (process_view (participant_in me.0.participants ∷ others_in me.0.participants), []) → Allows Kept slots id me 1 (λ n. n) (λ found after. Sighted me.0 found after.0 × (after.1 ≡ []))
+sights_as slots id me is = subst (λ (x : Me (Unit {0}) View). Allows Kept slots id x 1 (λ n. n) (λ found after. Sighted x.0 found after.0 × (after.1 ≡ []))) (sym is) (sights slots id (participant_in me.0.participants) (others_in me.0.participants))
 
-pub whole-process : (me : Me (Unit {0}) View) → me.0 ≡ process_view (person_in me.0.persons ∷ others_in me.0.persons) → me.1 ≡ [] → me ≡ (process_view (person_in me.0.persons ∷ others_in me.0.persons), [])
+pub whole-process : (me : Me (Unit {0}) View) → me.0 ≡ process_view (participant_in me.0.participants ∷ others_in me.0.participants) → me.1 ≡ [] → me ≡ (process_view (participant_in me.0.participants ∷ others_in me.0.participants), [])
 whole-process me is none = λ i. (is i, none i)

@@ -3,10 +3,10 @@ use Rattle.std.proofs.Common.{◌≡◌, ℕ, zero, suc, ◌+◌, ◌<◌, ◌�
 use mathlib.Core.Option.{some}
 use lib.ListN.{get_elem?}
 use Rattle.cl_ticket.specs.Weights.{weigh, under, Each}
-use Rattle.cl_ticket.specs.Rule.{spent, both, in_sets, of_persons, evals, births, numbers, known, opened, is, marks, name_of, depth_of, by_birth, by_root, if_eval, Agrees, Fits, FitsSet, FitsPerson, FitsHistory, FitsHalt, FitsUnborn, of_ticket, halters, Ruled, Holds}
+use Rattle.cl_ticket.specs.Rule.{spent, both, in_sets, of_participants, evals, births, numbers, known, opened, is, marks, name_of, depth_of, by_birth, by_root, if_eval, Agrees, Fits, FitsSet, FitsParticipant, FitsHistory, FitsHalt, FitsUnborn, of_ticket, halters, Ruled, Holds}
 use Rattle.cl_value.specs.Plain.{PlainAct, PlainHistory}
 use Rattle.cl_value.specs.Acts.{is_eval}
-use Rattle.cl_ticket.specs.Persons.{Birth, Person, Mark}
+use Rattle.cl_ticket.specs.Participants.{Birth, Participant, Mark}
 use mathlib.Core.List.{IsPrefix}
 use Rattle.cl_ticket.specs.declared.view.View.{View}
 use Rattle.atomic_table.proofs.Lists.{set_else}
@@ -15,7 +15,7 @@ use Rattle.cl_ticket.proofs.Sums.{weigh-append, weigh-set, weigh-at, each-at, ea
 -- the old views weigh what the new ones do
 pub record Balances (old new : List View) : Type 0 where
   pub sets : (h : PlainAct → ℕ) → weigh (in_sets h) new ≡ weigh (in_sets h) old
-  pub persons : (h : PlainAct → ℕ) → weigh (of_persons h) new ≡ weigh (of_persons h) old
+  pub participants : (h : PlainAct → ℕ) → weigh (of_participants h) new ≡ weigh (of_participants h) old
   pub born : (h : Birth → ℕ) → weigh (births h) new + weigh (evals h) old ≡ weigh (births h) old + weigh (evals h) new
   pub numbered : (h : ℕ → ℕ) → weigh (numbers h) new + weigh (known (under h)) old ≡ weigh (numbers h) old + weigh (known (under h)) new
   pub root : weigh (known (λ k. 1)) new ≡ weigh (known (λ k. 1)) old
@@ -31,7 +31,7 @@ Replaces views after old new = (f : View → ℕ) → weigh f after + weigh f ol
 pub keeps : (n : ℕ) (views after old new : List View) → Replaces views after old new → Balances old new → Each Fits after → Ruled n views → Ruled n after
 keeps n views after old new re b fits r = record {
   tickets = λ h. let e = re (in_sets (λ a. h a.ticket)) in let q = b.sets (λ a. h a.ticket) in let t = r.tickets h in omega arith;
-  owners = λ h. let e = re (in_sets h) in let e' = re (of_persons h) in let q = b.sets h in let q' = b.persons h in let t = r.owners h in omega arith;
+  owners = λ h. let e = re (in_sets h) in let e' = re (of_participants h) in let q = b.sets h in let q' = b.participants h in let t = r.owners h in omega arith;
   born = λ h. let e = re (births h) in let e' = re (evals h) in let q = b.born h in let t = r.born h in omega arith;
   numbered = λ h. let e = re (numbers h) in let e' = re (known (under h)) in let q = b.numbered h in let t = r.numbered h in omega arith;
   root = let e = re (known (λ k. 1)) in let q = b.root in let t = r.root in omega arith;
@@ -63,29 +63,29 @@ listed-after (suc a) b a' b' c f le le' le'' some_mark = let x = f (omega arith)
 in_sets-both : (h : PlainAct → ℕ) (v w : View) → in_sets h (both v w) ≡ in_sets h v + in_sets h w
 in_sets-both h v w = weigh-append (λ s. weigh h s.acts) v.sets w.sets
 
-of_persons-both : (h : PlainAct → ℕ) (v w : View) → of_persons h (both v w) ≡ of_persons h v + of_persons h w
-of_persons-both h v w = weigh-append (λ p. weigh h p.acts) v.persons w.persons
+of_participants-both : (h : PlainAct → ℕ) (v w : View) → of_participants h (both v w) ≡ of_participants h v + of_participants h w
+of_participants-both h v w = weigh-append (λ p. weigh h p.acts) v.participants w.participants
 
 evals-both : (h : Birth → ℕ) (v w : View) → evals h (both v w) ≡ evals h v + evals h w
-evals-both h v w = weigh-append (λ (p : Person). weigh (λ (a : PlainAct). if_eval (is_eval a.what) (h record { act = a; depth = suc (depth_of p.origin) })) p.acts) v.persons w.persons
+evals-both h v w = weigh-append (λ (p : Participant). weigh (λ (a : PlainAct). if_eval (is_eval a.what) (h record { act = a; depth = suc (depth_of p.origin) })) p.acts) v.participants w.participants
 
 births-both : (h : Birth → ℕ) (v w : View) → births h (both v w) ≡ births h v + births h w
-births-both h v w = let a = weigh-append (λ (p : Person). by_birth h p.origin) v.persons w.persons in let b = weigh-append h v.unborn w.unborn in omega arith
+births-both h v w = let a = weigh-append (λ (p : Participant). by_birth h p.origin) v.participants w.participants in let b = weigh-append h v.unborn w.unborn in omega arith
 
 numbers-both : (h : ℕ → ℕ) (v w : View) → numbers h (both v w) ≡ numbers h v + numbers h w
 numbers-both h v w = weigh-append (λ (s : PlainHistory). h s.set) v.sets w.sets
 
 known-both : (f : ℕ → ℕ) (v w : View) → known f (both v w) ≡ known f v + known f w
-known-both f v w = let a = weigh-append f v.opening w.opening in let b = weigh-append (λ (p : Person). by_root f p.origin) v.persons w.persons in omega arith
+known-both f v w = let a = weigh-append f v.opening w.opening in let b = weigh-append (λ (p : Participant). by_root f p.origin) v.participants w.participants in omega arith
 
 marks-both : (x : ℕ) (v w : View) → marks x (both v w) ≡ marks x v + marks x w
-marks-both x v w = weigh-append (λ (p : Person). weigh (λ (m : Mark). is x m.set) p.full) v.persons w.persons
+marks-both x v w = weigh-append (λ (p : Participant). weigh (λ (m : Mark). is x m.set) p.full) v.participants w.participants
 
 opened-both : (v w : View) → opened (both v w) ≡ opened v + opened w
 opened-both v w = length-append v.opening w.opening
 
 fits-both : (v w : View) → Fits v → Fits w → Fits (both v w)
-fits-both v w a b = (each-append FitsSet v.sets w.sets a.0 b.0, each-append FitsPerson v.persons w.persons a.1 b.1, each-append (λ k. k ≤ 1024) v.opening w.opening a.2 b.2, unborn-both)
+fits-both v w a b = (each-append FitsSet v.sets w.sets a.0 b.0, each-append FitsParticipant v.participants w.participants a.1 b.1, each-append (λ k. k ≤ 1024) v.opening w.opening a.2 b.2, unborn-both)
   where
     unborn-both : Each (FitsUnborn (both v w)) (v.unborn ++ w.unborn)
     unborn-both = each-append (FitsUnborn (both v w)) v.unborn w.unborn
@@ -95,7 +95,7 @@ fits-both v w a b = (each-append FitsSet v.sets w.sets a.0 b.0, each-append Fits
 pub balances-both : (v w : View) → Balances (v ∷ w ∷ []) (both v w ∷ spent ∷ [])
 balances-both v w = record {
   sets = λ h. weighs-both (in_sets h) v w (in_sets-both h v w) refl;
-  persons = λ h. weighs-both (of_persons h) v w (of_persons-both h v w) refl;
+  participants = λ h. weighs-both (of_participants h) v w (of_participants-both h v w) refl;
   born = λ h. let a = weighs-both (births h) v w (births-both h v w) refl in let b = weighs-both (evals h) v w (evals-both h v w) refl in omega arith;
   numbered = λ h. let a = weighs-both (numbers h) v w (numbers-both h v w) refl in let b = weighs-both (known (under h)) v w (known-both (under h) v w) refl in omega arith;
   root = weighs-both (known (λ k. 1)) v w (known-both (λ k. 1) v w) refl;
@@ -105,13 +105,13 @@ balances-both v w = record {
 }
 
 marked-both : (history : ℕ → List PlainAct) (v w : View) → FitsHistory history v → FitsHistory history w → FitsHistory history (both v w)
-marked-both history v w a b = (each-append (λ (s : PlainHistory). s.acts ≡ history s.set) v.sets w.sets a.0 b.0, each-append (λ (p : Person). Each (λ (m : Mark). IsPrefix m.acts (history m.set)) p.full) v.persons w.persons a.1 b.1)
+marked-both history v w a b = (each-append (λ (s : PlainHistory). s.acts ≡ history s.set) v.sets w.sets a.0 b.0, each-append (λ (p : Participant). Each (λ (m : Mark). IsPrefix m.acts (history m.set)) p.full) v.participants w.participants a.1 b.1)
 
 halt-both : (m : ℕ) (v w : View) → FitsHalt m v → FitsHalt m w → FitsHalt m (both v w)
-halt-both m v w a b = each-append (Agrees m) v.persons w.persons a b
+halt-both m v w a b = each-append (Agrees m) v.participants w.participants a b
 
 halters-both : (m : ℕ) (v w : View) → halters m (both v w) ≡ halters m v + halters m w
-halters-both m v w = weigh-append (λ (p : Person). if_eval p.failed (if_eval (eqb m (suc (name_of p.origin))) 1)) v.persons w.persons
+halters-both m v w = weigh-append (λ (p : Participant). if_eval p.failed (if_eval (eqb m (suc (name_of p.origin))) 1)) v.participants w.participants
 
 -- Any two seats may join
 pub joins : (words : List ℕ) (views : List View) (id other : ℕ) (v w : View) → Holds words views → get_elem? views id ≡ some v → ¬ (other ≡ id) → get_elem? (set views id (both v w)) other ≡ some w

@@ -7,9 +7,6 @@ pub mod Marks
 pub mod Moves
 pub mod Halts
 pub mod Closes
-pub mod Counts
 pub mod Rising
 pub mod Points
-pub mod Told
-pub mod Places
-pub mod Shapes
+pub mod CloseLaws

@@ -6,11 +6,11 @@ use mathlib.Core.Logic.{dite}
 use native.Mathlib.Decide.{ℕ_discrete}
 use lib.ListN.{get_elem?}
 use Rattle.cl_ticket.specs.Weights.{weigh, under, Each}
-use Rattle.cl_ticket.specs.Rule.{set_view, spent, by_birth, by_root, depth_of, if_eval, is, marks, numbers, known, FitsPerson, FitsHistory, FitsHalt, name_of, process_view, Ruled, Holds}
+use Rattle.cl_ticket.specs.Rule.{set_view, spent, by_birth, by_root, depth_of, if_eval, is, marks, numbers, known, FitsParticipant, FitsHistory, FitsHalt, name_of, process_view, Ruled, Holds}
 use Rattle.cl_ticket.specs.Steps.{IsSet, with_mark, with_marks, set_in, drawn_view, left_leave, right_full}
 use Rattle.cl_value.specs.Plain.{PlainAct, PlainHistory}
 use Rattle.cl_value.specs.Acts.{is_eval}
-use Rattle.cl_ticket.specs.Persons.{Birth, Mark, Origin, Root, Born, Person}
+use Rattle.cl_ticket.specs.Participants.{Birth, Mark, Origin, Root, Born, Participant}
 use Rattle.cl_ticket.specs.declared.view.View.{View}
 use Rattle.cl_ticket.proofs.Sums.{weigh-set, weigh-less, weigh-none, each-at, each-set, each-map, each-both, set-twice}
 use Rattle.cl_ticket.proofs.Keeps.{Balances, cuts}
@@ -31,14 +31,14 @@ under-once x (suc n) = dite (ℕ_discrete n x)
     (λ (ne : n ≢ x). let a = is-else x n ne in omega (arith, under-once x n))
 
 known-less : (f g : ℕ → ℕ) → ((k : ℕ) → f k ≤ g k) → (v : View) → known f v ≤ known g v
-known-less f g le v = let a = weigh-less f g le v.opening in let b = weigh-less (λ (p : Person). by_root f p.origin) (λ (p : Person). by_root g p.origin) (λ p. one p.origin) v.persons in omega arith
+known-less f g le v = let a = weigh-less f g le v.opening in let b = weigh-less (λ (p : Participant). by_root f p.origin) (λ (p : Participant). by_root g p.origin) (λ p. one p.origin) v.participants in omega arith
   where
     one : (o : Origin) → by_root f o ≤ by_root g o
     one (Root k) = le k
     one (Born b) = omega arith
 
 -- no other view has a set of this number
-pub others-apart : (n : ℕ) (views : List View) (id : ℕ) (s : PlainHistory) (guest : List Person) (u : List Birth) → Ruled n views → get_elem? views id ≡ some (set_view s guest u)
+pub others-apart : (n : ℕ) (views : List View) (id : ℕ) (s : PlainHistory) (guest : List Participant) (u : List Birth) → Ruled n views → get_elem? views id ≡ some (set_view s guest u)
     → Each (λ (v : View). Each (λ (t : PlainHistory). t.set ≢ s.set) v.sets) (set views id spent)
 others-apart n views id s guest u r at =
     let x = s.set in
@@ -66,16 +66,16 @@ longer : (b : Bool) (l m : List PlainAct) (a : PlainAct) → IsPrefix l m → Is
 longer true l m a p = (p.0 ++ a ∷ [], sym (append_assoc l p.0 (a ∷ [])) ∙ ap (λ (k : List PlainAct). k ++ a ∷ []) p.1)
 longer false l m a p = p
 
-marks-written : (history : ℕ → List PlainAct) (x : ℕ) (a : PlainAct) (l : List Person) → Each (λ (p : Person). Each (λ (m : Mark). IsPrefix m.acts (history m.set)) p.full) l → Each (λ (p : Person). Each (λ (m : Mark). IsPrefix m.acts (written history x a m.set)) p.full) l
-marks-written history x a l all = each-map (λ (p : Person). Each (λ (m : Mark). IsPrefix m.acts (history m.set)) p.full) (λ (p : Person). Each (λ (m : Mark). IsPrefix m.acts (written history x a m.set)) p.full) l
+marks-written : (history : ℕ → List PlainAct) (x : ℕ) (a : PlainAct) (l : List Participant) → Each (λ (p : Participant). Each (λ (m : Mark). IsPrefix m.acts (history m.set)) p.full) l → Each (λ (p : Participant). Each (λ (m : Mark). IsPrefix m.acts (written history x a m.set)) p.full) l
+marks-written history x a l all = each-map (λ (p : Participant). Each (λ (m : Mark). IsPrefix m.acts (history m.set)) p.full) (λ (p : Participant). Each (λ (m : Mark). IsPrefix m.acts (written history x a m.set)) p.full) l
     (λ p one. each-map (λ (m : Mark). IsPrefix m.acts (history m.set)) (λ (m : Mark). IsPrefix m.acts (written history x a m.set)) p.full (λ m q. longer (eqb m.set x) m.acts (history m.set) a q) one) all
 
 other-written : (history : ℕ → List PlainAct) (x : ℕ) (a : PlainAct) (v : View) → FitsHistory history v → Each (λ (t : PlainHistory). t.set ≢ x) v.sets → FitsHistory (written history x a) v
 other-written history x a v f apart =
-    (each-map (λ (t : PlainHistory). (t.acts ≡ history t.set) × (t.set ≢ x)) (λ (t : PlainHistory). t.acts ≡ written history x a t.set) v.sets (λ t q. q.0 ∙ sym (written-else history x t.set a q.1)) (each-both (λ (t : PlainHistory). t.acts ≡ history t.set) (λ (t : PlainHistory). t.set ≢ x) v.sets f.0 apart), marks-written history x a v.persons f.1)
+    (each-map (λ (t : PlainHistory). (t.acts ≡ history t.set) × (t.set ≢ x)) (λ (t : PlainHistory). t.acts ≡ written history x a t.set) v.sets (λ t q. q.0 ∙ sym (written-else history x t.set a q.1)) (each-both (λ (t : PlainHistory). t.acts ≡ history t.set) (λ (t : PlainHistory). t.set ≢ x) v.sets f.0 apart), marks-written history x a v.participants f.1)
 
 -- a drawn act keeps what is known of full sets
-pub draws-marked : (n : ℕ) (views : List View) (id : ℕ) (s : PlainHistory) (p : Person) (rest : List Person) (u : List Birth) (a : PlainAct) (history : ℕ → List PlainAct) → Ruled n views → get_elem? views id ≡ some (set_view s (p ∷ rest) u) → Each (FitsHistory history) views
+pub draws-marked : (n : ℕ) (views : List View) (id : ℕ) (s : PlainHistory) (p : Participant) (rest : List Participant) (u : List Birth) (a : PlainAct) (history : ℕ → List PlainAct) → Ruled n views → get_elem? views id ≡ some (set_view s (p ∷ rest) u) → Each (FitsHistory history) views
     → Each (FitsHistory (written history s.set a)) (set views id (drawn_view a s p rest u))
 draws-marked n views id s p rest u a history r at all =
     let x = s.set in
@@ -90,31 +90,31 @@ draws-marked n views id s p rest u a history r at all =
     subst (Each (FitsHistory (written history x a))) (set-twice views id spent w) (each-set (FitsHistory (written history x a)) (set views id spent) id w others' mine')
 
 -- ---- who leaves a full set
-marks-weigh : (f : Person → ℕ) (s : PlainHistory) → ((p : Person) → f (with_mark p s) ≡ f p) → (l : List Person) → weigh f (with_marks l s) ≡ weigh f l
+marks-weigh : (f : Participant → ℕ) (s : PlainHistory) → ((p : Participant) → f (with_mark p s) ≡ f p) → (l : List Participant) → weigh f (with_marks l s) ≡ weigh f l
 marks-weigh f s e [] = refl
 marks-weigh f s e (p ∷ more) = let q = e p in omega arith
 
 -- the mark is of the set of the view
-mark-weighs : (x : ℕ) (s : PlainHistory) (l : List Person) → marks x (process_view (with_marks l s)) ≤ marks x (process_view l) + is x s.set
+mark-weighs : (x : ℕ) (s : PlainHistory) (l : List Participant) → marks x (process_view (with_marks l s)) ≤ marks x (process_view l) + is x s.set
 mark-weighs x s [] = omega arith
 mark-weighs x s (p ∷ more) = omega arith
 
 full-balances : (v : View) → IsSet v → Balances (v ∷ []) (left_leave v ∷ right_full v ∷ [])
 full-balances v whole_set = let s = set_in v.sets in record {
   sets = λ h. omega arith;
-  persons = λ h. let a = marks-weigh (λ (p : Person). weigh h p.acts) s (λ p. refl) v.persons in omega arith;
+  participants = λ h. let a = marks-weigh (λ (p : Participant). weigh h p.acts) s (λ p. refl) v.participants in omega arith;
   born = λ h.
-      let a = marks-weigh (λ (p : Person). by_birth h p.origin) s (λ p. refl) v.persons in
-      let b = marks-weigh (λ (p : Person). weigh (λ (x : PlainAct). if_eval (is_eval x.what) (h record { act = x; depth = suc (depth_of p.origin) })) p.acts) s (λ p. refl) v.persons in
+      let a = marks-weigh (λ (p : Participant). by_birth h p.origin) s (λ p. refl) v.participants in
+      let b = marks-weigh (λ (p : Participant). weigh (λ (x : PlainAct). if_eval (is_eval x.what) (h record { act = x; depth = suc (depth_of p.origin) })) p.acts) s (λ p. refl) v.participants in
       omega arith;
-  numbered = λ h. let a = marks-weigh (λ (p : Person). by_root (under h) p.origin) s (λ p. refl) v.persons in omega arith;
-  root = let a = marks-weigh (λ (p : Person). by_root (λ k. 1) p.origin) s (λ p. refl) v.persons in omega arith;
+  numbered = λ h. let a = marks-weigh (λ (p : Participant). by_root (under h) p.origin) s (λ p. refl) v.participants in omega arith;
+  root = let a = marks-weigh (λ (p : Participant). by_root (λ k. 1) p.origin) s (λ p. refl) v.participants in omega arith;
   quiet = omega arith;
   grown = λ h. omega arith;
-  marked = λ x. let a = mark-weighs x s v.persons in let b : numbers (is x) v ≡ is x s.set + 0 = ap (numbers (is x)) whole_set in omega arith;
+  marked = λ x. let a = mark-weighs x s v.participants in let b : numbers (is x) v ≡ is x s.set + 0 = ap (numbers (is x)) whole_set in omega arith;
 }
 
-full-fits : (s : PlainHistory) (l : List Person) → Each FitsPerson l → Each FitsPerson (with_marks l s)
+full-fits : (s : PlainHistory) (l : List Participant) → Each FitsParticipant l → Each FitsParticipant (with_marks l s)
 full-fits s [] all = tt
 full-fits s (p ∷ more) all = all
 
@@ -122,16 +122,16 @@ begins-so : (history : ℕ → List PlainAct) (l : List PlainHistory) → Each (
 begins-so history [] all = (history 0, refl)
 begins-so history (s ∷ more) all = ([], append-nil s.acts ∙ all.0)
 
-full-marks : (history : ℕ → List PlainAct) (s : PlainHistory) (l : List Person) → IsPrefix s.acts (history s.set) → Each (λ (p : Person). Each (λ (m : Mark). IsPrefix m.acts (history m.set)) p.full) l → Each (λ (p : Person). Each (λ (m : Mark). IsPrefix m.acts (history m.set)) p.full) (with_marks l s)
+full-marks : (history : ℕ → List PlainAct) (s : PlainHistory) (l : List Participant) → IsPrefix s.acts (history s.set) → Each (λ (p : Participant). Each (λ (m : Mark). IsPrefix m.acts (history m.set)) p.full) l → Each (λ (p : Participant). Each (λ (m : Mark). IsPrefix m.acts (history m.set)) p.full) (with_marks l s)
 full-marks history s [] b all = tt
 full-marks history s (p ∷ more) b all = ((b, all.0), all.1)
 
-full-halt : (m : ℕ) (s : PlainHistory) (l : List Person) → FitsHalt m (process_view l) → FitsHalt m (process_view (with_marks l s))
+full-halt : (m : ℕ) (s : PlainHistory) (l : List Participant) → FitsHalt m (process_view l) → FitsHalt m (process_view (with_marks l s))
 full-halt m s [] all = tt
 full-halt m s (p ∷ more) all = all
 
 -- who stands in a full set leaves it
 pub leaves-full : (words : List ℕ) (views : List View) (id : ℕ) (v : View) → IsSet v → Holds words views → get_elem? views id ≡ some v → Holds words (set views id (left_leave v) ++ right_full v ∷ [])
-leaves-full words views id v whole_set h e = cuts words views id v (left_leave v) (right_full v) h e (full-balances v whole_set) (λ f. ((f.0, tt, f.2, f.3), (tt, full-fits (set_in v.sets) v.persons f.1, tt, tt)))
-    (λ history none m. ((m.0, tt), (tt, full-marks history (set_in v.sets) v.persons (begins-so history v.sets m.0) m.1)))
-    (λ m. ((λ x. (tt, full-halt m (set_in v.sets) v.persons x)), let a = marks-weigh (λ (p : Person). if_eval p.failed (if_eval (eqb m (suc (name_of p.origin))) 1)) (set_in v.sets) (λ p. refl) v.persons in omega arith))
+leaves-full words views id v whole_set h e = cuts words views id v (left_leave v) (right_full v) h e (full-balances v whole_set) (λ f. ((f.0, tt, f.2, f.3), (tt, full-fits (set_in v.sets) v.participants f.1, tt, tt)))
+    (λ history none m. ((m.0, tt), (tt, full-marks history (set_in v.sets) v.participants (begins-so history v.sets m.0) m.1)))
+    (λ m. ((λ x. (tt, full-halt m (set_in v.sets) v.participants x)), let a = marks-weigh (λ (p : Participant). if_eval p.failed (if_eval (eqb m (suc (name_of p.origin))) 1)) (set_in v.sets) (λ p. refl) v.participants in omega arith))

@@ -4,13 +4,13 @@ use Rattle.std.specs.Prelude.{slice_index, slice_set}
 use Rattle.atomic_table.specs.Table.{State, Me, keeps, Allows, Splits, Joins}
 use Rattle.cl_ticket.specs.Weights.{weigh}
 use Rattle.cl_ticket.specs.Rule.{opening_view, set_view, spent, both, opened, is, marks, numbers, FitsHalt, halters, Holds}
-use Rattle.cl_ticket.specs.Steps.{IsSet, set_in, person_in, others_in, act_of, drawn_view, Drawn, left_opening, right_opening, left_last, left_leave, right_leave, right_full, left_born, right_born}
+use Rattle.cl_ticket.specs.Steps.{IsSet, set_in, participant_in, others_in, act_of, drawn_view, Drawn, left_opening, right_opening, left_last, left_leave, right_leave, right_full, left_born, right_born}
 use Rattle.cl_value.specs.Plain.{PlainWhat, PlainHistory}
-use Rattle.cl_ticket.specs.Persons.{Birth, Person}
+use Rattle.cl_ticket.specs.Participants.{Birth, Participant}
 use Rattle.cl_ticket.specs.declared.view.View.{View}
 use Rattle.cl_ticket.proofs.Keeps.{joins, listed-after}
 use Rattle.cl_ticket.proofs.Cuts.{opens, opens-last, leaves, bears}
-use Rattle.cl_ticket.proofs.Draws.{draws-ruled, sets-within, persons-within, name-within, few-acts, no-opening}
+use Rattle.cl_ticket.proofs.Draws.{draws-ruled, sets-within, participants-within, name-within, few-acts, no-opening}
 use Rattle.cl_ticket.proofs.Marks.{draws-marked, written, leaves-full}
 use Rattle.cl_ticket.proofs.Sums.{weigh-set, each-set, each-at}
 
@@ -41,7 +41,7 @@ Tells site what v found after = Drawn site what v found after.0 × (after.1 ≡ 
 next-word : (n : ℕ) → n ≤ 17179869184 → (suc n + 1) % 2 ^ 64 ≡ suc (suc n)
 next-word n le = omega arith
 
-draws : (slots id site : ℕ) (what : PlainWhat) (s : PlainHistory) (p : Person) (rest : List Person) (u : List Birth) → length s.acts < 16777216
+draws : (slots id site : ℕ) (what : PlainWhat) (s : PlainHistory) (p : Participant) (rest : List Participant) (u : List Birth) → length s.acts < 16777216
     → Allows Kept slots id (set_view s (p ∷ rest) u, []) 0 (λ n. (n + 1) % 2 ^ 64) (Tells site what (set_view s (p ∷ rest) u))
 draws slots id site what s p rest u room st h homes at fits =
     let n = h.n in
@@ -70,14 +70,14 @@ draws slots id site what s p rest u room st h homes at fits =
         unwritten = λ some_opening. let c = weigh-set opened st.views id v w at in let z = no-opening n st.views id p rest s u h.ruled at p.origin refl in absurd (omega arith);
       },
       subst (λ (k : ℕ). Tells site what v k (w, [])) (sym found)
-          ((refl, (sets-within n st.views id v h.ruled at).0, (persons-within n st.views id v h.ruled at).0, name-within n st.views id p rest s u h.ruled at p.origin refl, most), refl),
+          ((refl, (sets-within n st.views id v h.ruled at).0, (participants-within n st.views id v h.ruled at).0, name-within n st.views id p rest s u h.ruled at p.origin refl, most), refl),
     )
 
-pub draws_as : (slots id site : ℕ) (what : PlainWhat) (me : Me (Unit {0}) View) (s : PlainHistory) (p : Person) (rest : List Person) (u : List Birth) → me ≡ (set_view s (p ∷ rest) u, []) → length s.acts < 16777216
+pub draws_as : (slots id site : ℕ) (what : PlainWhat) (me : Me (Unit {0}) View) (s : PlainHistory) (p : Participant) (rest : List Participant) (u : List Birth) → me ≡ (set_view s (p ∷ rest) u, []) → length s.acts < 16777216
     → Allows Kept slots id me 0 (λ n. (n + 1) % 2 ^ 64) (Tells site what me.0)
 draws_as slots id site what me s p rest u is room = subst (λ (m : Me (Unit {0}) View). Allows Kept slots id m 0 (λ n. (n + 1) % 2 ^ 64) (Tells site what m.0)) (sym is) (draws slots id site what s p rest u room)
 
 -- a set's view with its guest, whole
-pub whole : (me : Me (Unit {0}) View) → me.0 ≡ set_view (set_in me.0.sets) me.0.persons me.0.unborn → me.0.persons ≡ person_in me.0.persons ∷ others_in me.0.persons → me.1 ≡ []
-    → me ≡ (set_view (set_in me.0.sets) (person_in me.0.persons ∷ others_in me.0.persons) me.0.unborn, [])
-whole me is guest none = let v : me.0 ≡ set_view (set_in me.0.sets) (person_in me.0.persons ∷ others_in me.0.persons) me.0.unborn = is ∙ ap (λ (ps : List Person). set_view (set_in me.0.sets) ps me.0.unborn) guest in λ i. (v i, none i)
+pub whole : (me : Me (Unit {0}) View) → me.0 ≡ set_view (set_in me.0.sets) me.0.participants me.0.unborn → me.0.participants ≡ participant_in me.0.participants ∷ others_in me.0.participants → me.1 ≡ []
+    → me ≡ (set_view (set_in me.0.sets) (participant_in me.0.participants ∷ others_in me.0.participants) me.0.unborn, [])
+whole me is guest none = let v : me.0 ≡ set_view (set_in me.0.sets) (participant_in me.0.participants ∷ others_in me.0.participants) me.0.unborn = is ∙ ap (λ (ps : List Participant). set_view (set_in me.0.sets) ps me.0.unborn) guest in λ i. (v i, none i)

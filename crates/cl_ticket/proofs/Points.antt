@@ -6,11 +6,11 @@ use mathlib.Core.Logic.{dite}
 use native.Mathlib.Decide.{ℕ_discrete}
 use lib.ListN.{get_elem?}
 use Rattle.cl_ticket.specs.Weights.{weigh, under, upto, Each}
-use Rattle.cl_ticket.specs.Rule.{is, name_of, by_birth, by_root, if_eval, in_sets, of_persons, births, known, Rises, Fits, FitsSet, FitsPerson, Ruled}
+use Rattle.cl_ticket.specs.Rule.{is, name_of, by_birth, by_root, if_eval, in_sets, of_participants, births, known, Rises, Fits, FitsSet, FitsParticipant, Ruled}
 use Rattle.cl_value.specs.Tickets.{placed, in_order, acts_in}
 use Rattle.cl_value.specs.Plain.{PlainAct, PlainHistory}
 use Rattle.cl_value.specs.Acts.{is_eval, acts_of}
-use Rattle.cl_ticket.specs.Persons.{Birth, Origin, Root, Born, Person}
+use Rattle.cl_ticket.specs.Participants.{Birth, Origin, Root, Born, Participant}
 use Rattle.cl_ticket.specs.declared.view.View.{View}
 use Rattle.cl_ticket.proofs.Sums.{weigh-append, weigh-at, weigh-less, weigh-plus, each-at, each-map, each-append}
 use Rattle.cl_ticket.proofs.Draws.{births-less}
@@ -51,9 +51,9 @@ upto-none-0 zero = refl
 upto-none-0 (suc n) = let e = is-else 0 (suc n) (λ same. omega arith) in omega (arith, upto-none-0 n)
 
 -- Names differ
-pub names-differ : (n x : ℕ) (v : View) → Ruled n (v ∷ []) → weigh (λ (p : Person). is x (name_of p.origin)) v.persons ≤ 1
+pub names-differ : (n x : ℕ) (v : View) → Ruled n (v ∷ []) → weigh (λ (p : Participant). is x (name_of p.origin)) v.participants ≤ 1
 names-differ n x v r =
-    let s = weigh-plus (λ (p : Person). is x (name_of p.origin)) (λ (p : Person). by_root (λ k. is x 0) p.origin) (λ (p : Person). by_birth (λ b. is x b.act.ticket) p.origin) (λ p. named x p.origin) v.persons in
+    let s = weigh-plus (λ (p : Participant). is x (name_of p.origin)) (λ (p : Participant). by_root (λ k. is x 0) p.origin) (λ (p : Participant). by_birth (λ b. is x b.act.ticket) p.origin) (λ p. named x p.origin) v.participants in
     let b = births-less (λ a. is x a.ticket) n (v ∷ []) r in
     let t = r.tickets (is x) in
     let root = r.root in
@@ -63,17 +63,17 @@ names-differ n x v r =
     roots f g le (Root k) = le k
     roots f g le (Born b) = omega arith
 
-    by-name : (x : ℕ) → weigh (λ (p : Person). is x (name_of p.origin)) v.persons ≡ weigh (λ (p : Person). by_root (λ k. is x 0) p.origin) v.persons + weigh (λ (p : Person). by_birth (λ b. is x b.act.ticket) p.origin) v.persons
+    by-name : (x : ℕ) → weigh (λ (p : Participant). is x (name_of p.origin)) v.participants ≡ weigh (λ (p : Participant). by_root (λ k. is x 0) p.origin) v.participants + weigh (λ (p : Participant). by_birth (λ b. is x b.act.ticket) p.origin) v.participants
         → weigh (births (λ b. is x b.act.ticket)) (v ∷ []) ≤ weigh (in_sets (λ a. is x a.ticket)) (v ∷ []) → weigh (in_sets (λ a. is x a.ticket)) (v ∷ []) ≡ upto (is x) n → weigh (known (λ k. 1)) (v ∷ []) ≡ 1
-        → weigh (λ (p : Person). is x (name_of p.origin)) v.persons ≤ 1
-    by-name zero s b t root = let z = upto-none-0 n in let l = weigh-less (λ (p : Person). by_root (λ k. is 0 0) p.origin) (λ (p : Person). by_root (λ k. 1) p.origin) (λ p. roots (λ k. is 0 0) (λ k. 1) (λ k. omega (arith, is-here 0 0 refl)) p.origin) v.persons in omega arith
-    by-name (suc x) s b t root = let o = upto-once (suc x) n in let l = weigh-less (λ (p : Person). by_root (λ k. is (suc x) 0) p.origin) (λ (p : Person). 0) (λ p. none p.origin) v.persons in let z = all-zero v.persons in omega arith
+        → weigh (λ (p : Participant). is x (name_of p.origin)) v.participants ≤ 1
+    by-name zero s b t root = let z = upto-none-0 n in let l = weigh-less (λ (p : Participant). by_root (λ k. is 0 0) p.origin) (λ (p : Participant). by_root (λ k. 1) p.origin) (λ p. roots (λ k. is 0 0) (λ k. 1) (λ k. omega (arith, is-here 0 0 refl)) p.origin) v.participants in omega arith
+    by-name (suc x) s b t root = let o = upto-once (suc x) n in let l = weigh-less (λ (p : Participant). by_root (λ k. is (suc x) 0) p.origin) (λ (p : Participant). 0) (λ p. none p.origin) v.participants in let z = all-zero v.participants in omega arith
       where
         none : (o : Origin) → by_root (λ k. is (suc x) 0) o ≤ 0
         none (Root k) = omega (arith, is-else (suc x) 0 (λ e. omega arith))
         none (Born b) = omega arith
 
-        all-zero : (l : List Person) → weigh (λ (p : Person). 0) l ≡ 0
+        all-zero : (l : List Participant) → weigh (λ (p : Participant). 0) l ≡ 0
         all-zero [] = refl
         all-zero (p ∷ more) = omega (arith, all-zero more)
 
@@ -139,11 +139,7 @@ rises-in_order (a ∷ more) once all =
     let o = once a.ticket in
     rises-placed 0 a (in_order more) (rises-in_order more (λ x. let q = once x in omega arith) all.1) all.0 (omega arith)
 
--- ---- the acts of a person
-flag-weighs : (b : Bool) (f : ℕ) → if_eval b f ≡ 0 → b ≡ true → f ≡ 0
-flag-weighs true f e t = e
-flag-weighs false f e t = absurd (true≢false (sym t))
-
+-- ---- the acts of a participant
 own-weighs : (h : PlainAct → ℕ) (x name : ℕ) (l : List PlainAct) → Each (λ (a : PlainAct). a.proc ≡ name) l → weigh (λ (a : PlainAct). if_eval (eqb a.proc x) (h a)) l ≡ if_eval (eqb name x) (weigh h l)
 own-weighs h x name [] all = nothing (eqb name x)
   where
@@ -198,28 +194,28 @@ pub above-in-sets : (l : List PlainHistory) → Each FitsSet l → Each (λ (a :
 above-in-sets [] all = tt
 above-in-sets (s ∷ more) all = each-append (λ (a : PlainAct). 0 < a.ticket) s.acts (acts_in more) (rises-above 0 0 s.acts (omega arith) all.0.0) (above-in-sets more all.1)
 
--- A person's acts are those of its name among all acts in order of tickets
-pub person-acts : (n i : ℕ) (v : View) (p : Person) → Ruled n (v ∷ []) → get_elem? v.persons i ≡ some p → p.acts ≡ acts_of (name_of p.origin) (in_order (acts_in v.sets))
-person-acts n i v p r at =
+-- A participant's acts are those of its name among all acts in order of tickets
+pub participant-acts : (n i : ℕ) (v : View) (p : Participant) → Ruled n (v ∷ []) → get_elem? v.participants i ≡ some p → p.acts ≡ acts_of (name_of p.origin) (in_order (acts_in v.sets))
+participant-acts n i v p r at =
     let x = name_of p.origin in
     let all = acts_in v.sets in
     let fits : Fits v = r.fits.0 in
-    let person : FitsPerson p = each-at FitsPerson v.persons i p at fits.1 in
+    let participant : FitsParticipant p = each-at FitsParticipant v.participants i p at fits.1 in
     let sorted : Rises 0 (in_order all) = rises-in_order all (λ k. let t = r.tickets (is k) in let o = upto-once k n in let w = weigh-in-sets (λ (a : PlainAct). is k a.ticket) v.sets in omega arith) (above-in-sets v.sets fits.0) in
-    rising-same 0 p.acts (acts_of x (in_order all)) (rises-less 0 x p.acts (omega arith) person.0) (rises-acts_of 0 x (in_order all) sorted) (λ h.
+    rising-same 0 p.acts (acts_of x (in_order all)) (rises-less 0 x p.acts (omega arith) participant.0) (rises-acts_of 0 x (in_order all) sorted) (λ h.
     let k : PlainAct → ℕ = λ a. if_eval (eqb a.proc x) (h a) in
     let a : weigh h (acts_of x (in_order all)) ≡ weigh k (in_order all) = weigh-acts_of h x (in_order all) in
     let b = weigh-in_order k all in
     let c = weigh-in-sets k v.sets in
     let d = r.owners k in
-    let e : of_persons k v ≡ weigh (λ (q : Person). if_eval (eqb (name_of q.origin) x) (weigh h q.acts)) v.persons =
-    each-weighs (λ (q : Person). weigh k q.acts) (λ (q : Person). if_eval (eqb (name_of q.origin) x) (weigh h q.acts)) v.persons
-    (each-map FitsPerson (λ (q : Person). weigh k q.acts ≡ if_eval (eqb (name_of q.origin) x) (weigh h q.acts)) v.persons (λ q f. own-weighs h x (name_of q.origin) q.acts f.1) fits.1) in
-    let o = only-one (λ (q : Person). eqb (name_of q.origin) x) (λ (q : Person). weigh h q.acts) v.persons i p at (eq-eqb x x refl) (names-differ n x v r) in
+    let e : of_participants k v ≡ weigh (λ (q : Participant). if_eval (eqb (name_of q.origin) x) (weigh h q.acts)) v.participants =
+    each-weighs (λ (q : Participant). weigh k q.acts) (λ (q : Participant). if_eval (eqb (name_of q.origin) x) (weigh h q.acts)) v.participants
+    (each-map FitsParticipant (λ (q : Participant). weigh k q.acts ≡ if_eval (eqb (name_of q.origin) x) (weigh h q.acts)) v.participants (λ q f. own-weighs h x (name_of q.origin) q.acts f.1) fits.1) in
+    let o = only-one (λ (q : Participant). eqb (name_of q.origin) x) (λ (q : Participant). weigh h q.acts) v.participants i p at (eq-eqb x x refl) (names-differ n x v r) in
     omega arith)
 
 -- Where nobody is unborn, the processes that were made are named by the tickets of the evals
-pub names-made : (n x : ℕ) (v : View) → Ruled n (v ∷ []) → v.unborn ≡ [] → weigh (λ (p : Person). by_birth (λ b. is x b.act.ticket) p.origin) v.persons ≡ in_sets (λ a. if_eval (is_eval a.what) (is x a.ticket)) v
+pub names-made : (n x : ℕ) (v : View) → Ruled n (v ∷ []) → v.unborn ≡ [] → weigh (λ (p : Participant). by_birth (λ b. is x b.act.ticket) p.origin) v.participants ≡ in_sets (λ a. if_eval (is_eval a.what) (is x a.ticket)) v
 names-made n x v r none =
     let u : weigh (λ (b : Birth). is x b.act.ticket) v.unborn ≡ 0 = ap (weigh (λ (b : Birth). is x b.act.ticket)) none in
     let a = r.born (λ b. is x b.act.ticket) in

@@ -1,9 +1,9 @@
 pub mod Weights
-pub mod Persons
+pub mod Participants
 pub mod Codes
 pub mod Rule
 pub mod Steps
 pub mod Starts
 pub mod Tokens
-pub mod Seats
+pub mod TokenFields
 pub mod Points

@@ -1,7 +1,7 @@
 -- What a process begins with, by its origin. (This project.)
 use Rattle.std.specs.Prelude.{List, []}
 use Rattle.cl_value.specs.Plain.{PlainPart, PlainWhat, DidEval, PlainStart, Main, Lives}
-use Rattle.cl_ticket.specs.Persons.{Origin, Root, Born}
+use Rattle.cl_ticket.specs.Participants.{Origin, Root, Born}
 
 -- the live tuple of an act that makes a process
 abbrev pub live_of : PlainWhat → List PlainPart

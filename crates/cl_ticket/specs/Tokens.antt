@@ -4,10 +4,10 @@ use Rattle.std.specs.Coded.{Coded, code_by, coded×, coded_list, coded_option}
 use Rattle.atomic_table.specs.Seated.{TableId}
 use Rattle.cl_value.specs.Plain.{PlainAct, PlainHistory}
 use Rattle.cl_value.specs.Acts.{is_eval}
-use Rattle.cl_ticket.specs.Persons.{Birth, Root, Born, Person}
-use Rattle.cl_ticket.specs.Codes.{history_coded, person_coded, birth_coded}
+use Rattle.cl_ticket.specs.Participants.{Birth, Root, Born, Participant}
+use Rattle.cl_ticket.specs.Codes.{history_coded, participant_coded, birth_coded}
 use Rattle.cl_ticket.specs.Rule.{depth_of}
-use Rattle.cl_ticket.specs.Steps.{plain_history, person, with_act, with_mark, with_halt, with_sight, unborn_after, birth, set_in, person_in, others_in}
+use Rattle.cl_ticket.specs.Steps.{plain_history, participant, with_act, with_mark, with_halt, with_sight, unborn_after, birth, set_in, participant_in, others_in}
 use Rattle.cl_ticket.specs.declared.view.View.{View}
 
 -- a table that no run has yet, and how many sets it is for
@@ -15,95 +15,102 @@ pub record Fresh : Type 0 where
   pub table : TableId
   pub sets : ℕ
 
--- a process, and those that it has gathered
-pub record Process : Type 0 where
-  pub person : Person
-  pub gathered : List Person
+-- the token of a process: the process as a participant, and those that it has gathered
+pub record ProcessToken : Type 0 where
+  pub participant : Participant
+  pub gathered : List Participant
 
--- a set with its acts, who stands in it, and the evals drawn in it whose process has no token yet
-pub record Place : Type 0 where
+-- the token of a set: its acts, the process that stands in it, and the evals drawn in it whose process has no token yet
+pub record SetToken : Type 0 where
   pub history : PlainHistory
-  pub guest : Option Process
+  pub guest : Option ProcessToken
   pub unborn : List Birth
 
-abbrev pub process_coded : Coded Process
-process_coded = code_by (Person × List Person) (coded× person_coded (coded_list person_coded)) (λ (p : Process). (p.person, p.gathered)) (λ q. record { person = q.0; gathered = q.1 }) (λ _. refl)
+-- how the plain data of a process token is stored
+abbrev pub process_token_coded : Coded ProcessToken
+process_token_coded = code_by (Participant × List Participant) (coded× participant_coded (coded_list participant_coded)) (λ (p : ProcessToken). (p.participant, p.gathered)) (λ q. record { participant = q.0; gathered = q.1 }) (λ _. refl)
 
-abbrev pub place_coded : Coded Place
-place_coded =
-    code_by (PlainHistory × (Option Process × List Birth)) (coded× history_coded (coded× (coded_option process_coded) (coded_list birth_coded))) (λ (s : Place). (s.history, (s.guest, s.unborn))) (λ q. record { history = q.0; guest = q.1.0; unborn = q.1.1 }) (λ _. refl)
+-- how the plain data of a set token is stored
+abbrev pub set_token_coded : Coded SetToken
+set_token_coded =
+    code_by (PlainHistory × (Option ProcessToken × List Birth)) (coded× history_coded (coded× (coded_option process_token_coded) (coded_list birth_coded))) (λ (s : SetToken). (s.history, (s.guest, s.unborn))) (λ q. record { history = q.0; guest = q.1.0; unborn = q.1.1 }) (λ _. refl)
 
--- everyone whom a token stands for, its own process first
-abbrev pub everyone : Process → List Person
-everyone p = p.person ∷ p.gathered
+-- participants_of whom a token stands for, its own process first
+abbrev pub participants_of : ProcessToken → List Participant
+participants_of p = p.participant ∷ p.gathered
 
--- a process without acts, which has gathered nobody
-abbrev pub new_process : Person → Process
-new_process p = record { person = p; gathered = [] }
+-- a participant that has gathered no other
+abbrev pub new_process_token : Participant → ProcessToken
+new_process_token p = record { participant = p; gathered = [] }
 
-abbrev pub guest_in : Option Process → Process
-guest_in None = new_process (person (Root 0) [])
+-- the process, where there is one, and else a new process 0
+abbrev pub guest_in : Option ProcessToken → ProcessToken
+guest_in None = new_process_token (participant (Root 0) [])
 guest_in (Some p) = p
 
--- who stands in a place where somebody does
-abbrev pub guest_of : Place → Process
+-- the process that stands in a set, where one does
+abbrev pub guest_of : SetToken → ProcessToken
 guest_of s = guest_in s.guest
 
-abbrev pub HasGuest : Place → Type 0
+-- a process stands in the set
+abbrev pub HasGuest : SetToken → Type 0
 HasGuest s = s.guest ≡ Some (guest_of s)
 
--- a set without acts in which nobody stands
-abbrev pub new_place : ℕ → Place
-new_place number = record { history = plain_history number []; guest = None; unborn = [] }
+-- the token of a set without acts in which no process stands
+abbrev pub new_set_token : ℕ → SetToken
+new_set_token number = record { history = plain_history number []; guest = None; unborn = [] }
 
--- the places of the sets below n
-abbrev pub new_places : ℕ → List Place
-new_places zero = []
-new_places (suc n) = new_places n ++ new_place n ∷ []
+-- the tokens of the sets below n, none of which has acts
+abbrev pub new_set_tokens : ℕ → List SetToken
+new_set_tokens zero = []
+new_set_tokens (suc n) = new_set_tokens n ++ new_set_token n ∷ []
 
-abbrev pub with_guest : Place → Option Process → Place
+-- the set with this guest, or with none
+abbrev pub with_guest : SetToken → Option ProcessToken → SetToken
 with_guest s guest = record { history = s.history; guest = guest; unborn = s.unborn }
 
--- who leaves a place: where it is full, marked with the set's acts
-abbrev pub leaver : Bool → Place → Process
-leaver true s = record { person = with_mark (guest_of s).person s.history; gathered = (guest_of s).gathered }
-leaver false s = guest_of s
+-- the process that leaves a set: where the set is full, it is marked with the set's acts
+abbrev pub process_leaving : Bool → SetToken → ProcessToken
+process_leaving true s = record { participant = with_mark (guest_of s).participant s.history; gathered = (guest_of s).gathered }
+process_leaving false s = guest_of s
 
 -- the act stands at the end of the set's acts and of the guest's; an eval waits for its process
-abbrev pub with_drawn : Place → PlainAct → Place
+abbrev pub with_drawn : SetToken → PlainAct → SetToken
 with_drawn s a = record {
   history = plain_history s.history.set (s.history.acts ++ a ∷ []);
-  guest = Some (record { person = with_act (guest_of s).person a; gathered = (guest_of s).gathered });
-  unborn = unborn_after (is_eval a.what) (birth a (suc (depth_of (guest_of s).person.origin))) s.unborn;
+  guest = Some (record { participant = with_act (guest_of s).participant a; gathered = (guest_of s).gathered });
+  unborn = unborn_after (is_eval a.what) (birth a (suc (depth_of (guest_of s).participant.origin))) s.unborn;
 }
 
--- everybody who was made here has a token
-abbrev pub all_born : Place → Place
+-- each process that was made here has a token
+abbrev pub all_born : SetToken → SetToken
 all_born s = record { history = s.history; guest = s.guest; unborn = [] }
 
 -- the process that an eval makes
-abbrev pub newborn : Birth → Process
-newborn b = new_process (person (Born b) [])
+abbrev pub newborn : Birth → ProcessToken
+newborn b = new_process_token (participant (Born b) [])
 
 -- the process has gathered another, and all that the other had gathered
-abbrev pub with_gathered : Process → Process → Process
-with_gathered p q = record { person = p.person; gathered = p.gathered ++ everyone q }
+abbrev pub with_gathered : ProcessToken → ProcessToken → ProcessToken
+with_gathered p q = record { participant = p.participant; gathered = p.gathered ++ participants_of q }
 
 -- the process failed, and saw the name that this number in word 1 stands for
-abbrev pub after_halt : Process → ℕ → Process
-after_halt p m = record { person = with_halt p.person m; gathered = p.gathered }
+abbrev pub after_halt : ProcessToken → ℕ → ProcessToken
+after_halt p m = record { participant = with_halt p.participant m; gathered = p.gathered }
 
 -- the process saw who failed first, or that nobody had failed
-abbrev pub after_sight : Process → Option ℕ → Process
-after_sight p q = record { person = with_sight p.person q; gathered = p.gathered }
+abbrev pub after_sight : ProcessToken → Option ℕ → ProcessToken
+after_sight p q = record { participant = with_sight p.participant q; gathered = p.gathered }
 
 -- what a token shows of its view
-abbrev pub guests : List Person → Option Process
+abbrev pub guests : List Participant → Option ProcessToken
 guests [] = None
-guests (p ∷ more) = Some (record { person = p; gathered = more })
+guests (p ∷ more) = Some (record { participant = p; gathered = more })
 
-abbrev pub place_in : View → Place
-place_in v = record { history = set_in v.sets; guest = guests v.persons; unborn = v.unborn }
+-- what the token of a set shows of its view
+abbrev pub set_token_in : View → SetToken
+set_token_in v = record { history = set_in v.sets; guest = guests v.participants; unborn = v.unborn }
 
-abbrev pub process_in : View → Process
-process_in v = record { person = person_in v.persons; gathered = others_in v.persons }
+-- what the token of a process shows of its view
+abbrev pub process_token_in : View → ProcessToken
+process_token_in v = record { participant = participant_in v.participants; gathered = others_in v.participants }

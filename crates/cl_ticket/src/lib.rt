@@ -8,6 +8,7 @@
 //! A token that is dropped leaves `close` out of reach, since some process or set is then missing.
 #![tactic(auto)]
 
+ghost use Rattle.cl_ground.specs.declared.limits.TheConstants.{MOST_SITES};
 ghost use Rattle.std.specs.Prelude.{◌≡◌, ◌+◌, ◌-◌, ◌<◌, ◌≤◌, ◌++◌, ℕ, List, [], ◌∷◌, length, map, All, IfOk, None, Some, if◌then◌else◌, vec_len, vec_capacity};
 ghost use Rattle.std.specs.Slots.{slots_items, slots_len, IsFull};
 ghost use lib.ListN.{get_elem?};
@@ -17,33 +18,26 @@ ghost use Rattle.cl_value.specs.Acts.{is_eval, names_made};
 ghost use Rattle.cl_value.specs.Tickets.{by_ticket, NumberedFrom};
 ghost use Rattle.cl_value.specs.Views.{plain_what};
 ghost use Rattle.cl_ticket.specs.Weights.{Each, weigh};
-ghost use Rattle.cl_ticket.specs.Persons.{Root};
+ghost use Rattle.cl_ticket.specs.Participants.{Root};
 ghost use Rattle.cl_ticket.specs.Rule.{opening_view, name_of, Agrees, Ruled};
-ghost use Rattle.cl_ticket.specs.Steps.{act_of, seen, birth_in, set_in, end_view, person, has_one, evals_in, IsSet, Drawn};
+ghost use Rattle.cl_ticket.specs.Steps.{act_of, seen, birth_in, set_in, end_view, participant, has_one, evals_in, IsSet, Drawn};
 ghost use Rattle.cl_ticket.specs.Starts.{start_of, live_of};
 ghost use Rattle.cl_ticket.specs.Points.{names_of, Differ, SameNumbers, AreBelow, OwnActs, HaveOwners, IsMadeBy, FullMarks, HaltMarks, IsHalter};
-ghost use Rattle.cl_ticket.specs.Tokens.{Process, Place, everyone, new_process, new_place, new_places, guest_of, with_guest, with_drawn, with_gathered, all_born, leaver, newborn, after_halt, after_sight, HasGuest};
+ghost use Rattle.cl_ticket.specs.Tokens.{ProcessToken, SetToken, participants_of, new_process_token, new_set_token, new_set_tokens, guest_of, with_guest, with_drawn, with_gathered, all_born, process_leaving, newborn, after_halt, after_sight, HasGuest};
 
-#[cfg(test)]
-mod rows;
-mod seats;
-#[cfg(test)]
-mod set_state;
 mod table;
-#[cfg(test)]
-mod tests;
-#[cfg(test)]
-mod threads;
+mod tokens;
 mod view;
 
-pub use crate::seats::{Blank, Plan, ProcSeat, SetSeat, Tickets};
 use crate::table::{
-    Bears, Both, Draws, Halts, Leaves, LeavesFull, Opens, OpensLast, Said, Sights, TicketSeat,
+    Bears, Both, DrawnAct, Draws, Halts, Leaves, LeavesFull, Opens, OpensLast, Sights, TicketSeat,
     TicketTable,
 };
+pub use crate::tokens::{Blank, Plan, ProcSeat, SetSeat, Tickets};
 pub use crate::view::View;
 use atomic_table::Table;
-use cl_value::{NoMemory, What};
+use cl_ground::NoMemory;
+use cl_value::What;
 use std::alloc::Global;
 use std::marker::{Brand, PhantomData};
 
@@ -58,14 +52,14 @@ pub fn enter<K: Plan>(tickets: &Tickets<K>, set: &mut SetSeat<K>, guest: ProcSea
 }
 
 // What is done is picked by the call.
-fn draw_as<K: Plan, W: Said>(
+fn draw_as<K: Plan, W: DrawnAct>(
     tickets: &Tickets<K>,
     seat: &mut TicketSeat,
     _site: u32,
     _what: &What,
 ) -> u64
     requires table { seat.old.table_id ≡ tickets.now.table.shared.table_id }
-    requires view { IsSet seat.old.me.0 × has_one seat.old.me.0.persons × (seat.old.me.1 ≡ []) }
+    requires view { IsSet seat.old.me.0 × has_one seat.old.me.0.participants × (seat.old.me.1 ≡ []) }
     requires room { length (set_in seat.old.me.0.sets).acts < 16777216 }
     ensures drawn { Drawn W.site W.what seat.old.me.0 result seat.new.me.0 }
     ensures seat { (seat.new.me.1 ≡ []) × (seat.new.table_id ≡ seat.old.table_id) }
@@ -89,10 +83,10 @@ fn last_eval(what: &What, ticket: u64, before: u64) -> u64
 pub fn draw<K: Plan>(tickets: &Tickets<K>, set: &mut SetSeat<K>, site: u32, what: &What) -> u64
     requires guest { HasGuest set.old }
     requires room { length set.old.history.acts < K.entries }
-    ensures drawn { set.new ≡ with_drawn set.old (act_of site (plain_what what.now) (guest_of set.old).person result) }
+    ensures drawn { set.new ≡ with_drawn set.old (act_of site (plain_what what.now) (guest_of set.old).participant result) }
     ensures above_set { Each (λ a. a.ticket < result) set.old.history.acts }
-    ensures above_guest { Each (λ a. a.ticket < result) (guest_of set.old).person.acts }
-    ensures above_name { name_of (guest_of set.old).person.origin < result }
+    ensures above_guest { Each (λ a. a.ticket < result) (guest_of set.old).participant.acts }
+    ensures above_name { name_of (guest_of set.old).participant.origin < result }
 {
     let ticket = draw_as::<K, Brand>(tickets, &mut set.seat, site, what);
     set.last = last_eval(what, ticket, set.last);
@@ -105,7 +99,7 @@ pub fn draw<K: Plan>(tickets: &Tickets<K>, set: &mut SetSeat<K>, site: u32, what
 pub fn leave<K: Plan>(tickets: &Tickets<K>, set: &mut SetSeat<K>, full: bool) -> ProcSeat<K>
     requires guest { HasGuest set.old }
     ensures set { set.new ≡ with_guest set.old None }
-    ensures process { result ≡ leaver full set.old }
+    ensures process { result ≡ process_leaving full set.old }
 {
     let seat = if full {
         tickets.table.shared.split_seat::<LeavesFull>(&mut set.seat)
@@ -129,8 +123,8 @@ pub fn born<K: Plan>(tickets: &Tickets<K>, set: &mut SetSeat<K>) -> ProcSeat<K>
     requires one { set.old.unborn ≡ birth_in set.old.unborn ∷ [] }
     ensures set { set.new ≡ all_born set.old }
     ensures process { result ≡ newborn (birth_in set.old.unborn) }
-    ensures name { name_of result.person.origin ≡ (birth_in set.old.unborn).act.ticket }
-    ensures start { start_of result.person.origin ≡ Lives (birth_in set.old.unborn).act.site (live_of (birth_in set.old.unborn).act.what) (birth_in set.old.unborn).depth }
+    ensures name { name_of result.participant.origin ≡ (birth_in set.old.unborn).act.ticket }
+    ensures start { start_of result.participant.origin ≡ Lives (birth_in set.old.unborn).act.site (live_of (birth_in set.old.unborn).act.what) (birth_in set.old.unborn).depth }
 {
     let seat = tickets.table.shared.split_seat::<Bears>(&mut set.seat);
     let name = set.last;
@@ -147,7 +141,7 @@ pub fn born<K: Plan>(tickets: &Tickets<K>, set: &mut SetSeat<K>) -> ProcSeat<K>
 pub fn halt<K: Plan>(tickets: &Tickets<K>, seat: &mut ProcSeat<K>) -> u64
     ensures some { 0 < result }
     ensures failed { seat.new ≡ after_halt seat.old result }
-    ensures agrees { Each (Agrees result) (everyone seat.old) }
+    ensures agrees { Each (Agrees result) (participants_of seat.old) }
 {
     let mine = seat.name + 1;
     let found = tickets
@@ -161,7 +155,7 @@ pub fn halt<K: Plan>(tickets: &Tickets<K>, seat: &mut ProcSeat<K>) -> u64
 /// keeps what it saw, and what it and those that it has gathered knew before agrees with it. Takes no memory.
 pub fn see_halt<K: Plan>(tickets: &Tickets<K>, seat: &mut ProcSeat<K>) -> Option<u64>
     ensures saw { seat.new ≡ after_sight seat.old result }
-    ensures agrees { Each (Agrees (seen result)) (everyone seat.old) }
+    ensures agrees { Each (Agrees (seen result)) (participants_of seat.old) }
 {
     let found = tickets.table.shared.load::<Sights>(&mut seat.seat, 1);
     if found == 0 { None } else { Some(found - 1) }
@@ -182,10 +176,10 @@ pub fn gather<K: Plan>(tickets: &Tickets<K>, into: &mut ProcSeat<K>, ended: Proc
 // The next set.
 fn open_next<K: Plan>(tickets: &Tickets<K>, opener: &mut TicketSeat, number: u32) -> SetSeat<K>
     requires table { opener.old.table_id ≡ tickets.now.table.shared.table_id }
-    requires view { (opener.old.me ≡ (opening_view number, [])) × (number < 1024) }
+    requires view { (opener.old.me ≡ (opening_view number, [])) × (number < MOST_SITES) }
     ensures table { opener.new.table_id ≡ opener.old.table_id }
     ensures opener { opener.new.me ≡ (opening_view (number + 1), []) }
-    ensures set { result ≡ new_place number }
+    ensures set { result ≡ new_set_token number }
 {
     let seat = tickets.table.shared.split_seat::<Opens>(opener);
     SetSeat {
@@ -204,9 +198,9 @@ fn open_last<K: Plan>(
     number: u32,
 ) -> (SetSeat<K>, ProcSeat<K>)
     requires table { opener.table_id ≡ tickets.now.table.shared.table_id }
-    requires view { (opener.me ≡ (opening_view number, [])) × (number < 1024) × (number + 1 ≡ length K.shapes) }
-    ensures set { result.0 ≡ new_place number }
-    ensures process { result.1 ≡ new_process (person (Root (length K.shapes)) []) }
+    requires view { (opener.me ≡ (opening_view number, [])) × (number < MOST_SITES) × (number + 1 ≡ length K.shapes) }
+    ensures set { result.0 ≡ new_set_token number }
+    ensures process { result.1 ≡ new_process_token (participant (Root (length K.shapes)) []) }
 {
     let seat = tickets.table.shared.split_seat::<OpensLast>(&mut opener);
     (
@@ -233,12 +227,12 @@ fn open_all<K: Plan>(
     last: u32,
 )
     requires table { opener.old.table_id ≡ tickets.now.table.shared.table_id }
-    requires view { (opener.old.me ≡ (opening_view 0, [])) × (last < 1024) }
+    requires view { (opener.old.me ≡ (opening_view 0, [])) × (last < MOST_SITES) }
     requires room { (seats.old.items ≡ []) × (last < vec_capacity seats.old) }
     ensures room { vec_capacity seats.new ≡ vec_capacity seats.old }
     ensures table { opener.new.table_id ≡ opener.old.table_id }
     ensures opener { opener.new.me ≡ (opening_view last, []) }
-    ensures sets { (seats.new.items ≡ new_places last) × (vec_len seats.new ≡ last) }
+    ensures sets { (seats.new.items ≡ new_set_tokens last) × (vec_len seats.new ≡ last) }
 {
     for number in 0..last {
         seats.push_reserved(open_next(tickets, opener, number));
@@ -247,7 +241,7 @@ fn open_all<K: Plan>(
 
 /// A fresh table for so many sets. `NoMemory` comes where the allocator refused its two words.
 pub fn begin_table(alloc: Global, sets: u32) -> Result<Blank, NoMemory>
-    requires { (0 < sets) × (sets ≤ 1024) }
+    requires { (0 < sets) × (sets ≤ MOST_SITES) }
     ensures { IfOk result (λ blank. blank.sets ≡ sets) }
 {
     match Table::of_words(alloc, &[1, 0], &()) {
@@ -269,9 +263,9 @@ pub fn make<K: Plan>(
     requires table { blank.table ≡ K.table }
     requires shapes { blank.sets ≡ length K.shapes }
     requires limit { K.entries ≤ 16777216 }
-    ensures sets { IfOk result (λ r. r.1.items ≡ new_places (length K.shapes)) }
-    ensures process { IfOk result (λ r. r.2 ≡ new_process (person (Root (length K.shapes)) [])) }
-    ensures start { IfOk result (λ r. start_of r.2.person.origin ≡ Main) }
+    ensures sets { IfOk result (λ r. r.1.items ≡ new_set_tokens (length K.shapes)) }
+    ensures process { IfOk result (λ r. r.2 ≡ new_process_token (participant (Root (length K.shapes)) [])) }
+    ensures start { IfOk result (λ r. start_of r.2.participant.origin ≡ Main) }
 {
     let Blank {
         table,
@@ -305,9 +299,9 @@ pub struct Closed {
 fn take_in<K: Plan>(tickets: &Tickets<K>, main: &mut TicketSeat, set: SetSeat<K>)
     requires table { main.old.table_id ≡ tickets.now.table.shared.table_id }
     requires empty { (set.guest ≡ None) × (set.unborn ≡ []) }
-    requires main { main.old.me ≡ (end_view main.old.me.0.persons main.old.me.0.sets, []) }
+    requires main { main.old.me ≡ (end_view main.old.me.0.participants main.old.me.0.sets, []) }
     ensures table { main.new.table_id ≡ main.old.table_id }
-    ensures view { main.new.me ≡ (end_view main.old.me.0.persons (main.old.me.0.sets ++ set.history ∷ []), []) }
+    ensures view { main.new.me ≡ (end_view main.old.me.0.participants (main.old.me.0.sets ++ set.history ∷ []), []) }
 {
     let SetSeat {
         seat,
@@ -323,9 +317,9 @@ fn take_in<K: Plan>(tickets: &Tickets<K>, main: &mut TicketSeat, set: SetSeat<K>
 fn take_all<K: Plan>(tickets: &Tickets<K>, main: &mut TicketSeat, sets: Vec<SetSeat<K>>)
     requires table { main.old.table_id ≡ tickets.now.table.shared.table_id }
     requires empty { All (λ s. (s.guest ≡ None) × (s.unborn ≡ [])) sets.items }
-    requires main { main.old.me ≡ (end_view main.old.me.0.persons [], []) }
+    requires main { main.old.me ≡ (end_view main.old.me.0.participants [], []) }
     ensures table { main.new.table_id ≡ main.old.table_id }
-    ensures view { main.new.me ≡ (end_view main.old.me.0.persons (map (λ s. s.history) sets.items), []) }
+    ensures view { main.new.me ≡ (end_view main.old.me.0.participants (map (λ s. s.history) sets.items), []) }
 {
     for set in sets {
         take_in(tickets, main, set);
@@ -349,22 +343,22 @@ fn words_of(table: &atomic_table::Closed<(), Global>) -> Closed
 /// memory.
 pub fn close<K: Plan>(tickets: Tickets<K>, sets: Vec<SetSeat<K>>, main: ProcSeat<K>) -> Closed
     requires empty { All (λ s. (s.guest ≡ None) × (s.unborn ≡ [])) sets.items }
-    requires main { name_of main.person.origin ≡ 0 }
+    requires main { name_of main.participant.origin ≡ 0 }
     requires sets { length sets.items ≡ length K.shapes }
     requires gathered { length main.gathered ≡ evals_in (map (λ s. s.history) sets.items) }
     ensures tickets { NumberedFrom 1 (by_ticket (map (λ s. s.history) sets.items)) }
     ensures next { result.next ≡ length (by_ticket (map (λ s. s.history) sets.items)) + 1 }
     ensures numbers { AreBelow (length K.shapes) (map (λ s. s.history.set) sets.items) }
-    ensures root { main.person.origin ≡ Root (length K.shapes) }
-    ensures names { Differ (names_of (everyone main)) }
+    ensures root { main.participant.origin ≡ Root (length K.shapes) }
+    ensures names { Differ (names_of (participants_of main)) }
     ensures made { SameNumbers (names_of main.gathered) (names_made (by_ticket (map (λ s. s.history) sets.items))) }
-    ensures acts { OwnActs (map (λ s. s.history) sets.items) (everyone main) }
-    ensures owners { HaveOwners (map (λ s. s.history) sets.items) (everyone main) }
-    ensures starts { Each (IsMadeBy (everyone main)) main.gathered }
-    ensures full { FullMarks (map (λ s. s.history) sets.items) (everyone main) }
-    ensures halt { HaltMarks result.halt (everyone main) }
-    ensures halter { IsHalter result.halt (everyone main) }
-    ensures ruled { Ruled (result.next - 1) (end_view (everyone main) (map (λ s. s.history) sets.items) ∷ []) }
+    ensures acts { OwnActs (map (λ s. s.history) sets.items) (participants_of main) }
+    ensures owners { HaveOwners (map (λ s. s.history) sets.items) (participants_of main) }
+    ensures starts { Each (IsMadeBy (participants_of main)) main.gathered }
+    ensures full { FullMarks (map (λ s. s.history) sets.items) (participants_of main) }
+    ensures halt { HaltMarks result.halt (participants_of main) }
+    ensures halter { IsHalter result.halt (participants_of main) }
+    ensures ruled { Ruled (result.next - 1) (end_view (participants_of main) (map (λ s. s.history) sets.items) ∷ []) }
 {
     let ProcSeat {
         seat: mut closer,

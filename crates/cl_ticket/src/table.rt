@@ -75,7 +75,7 @@ impl Split<View> for Bears {
 }
 
 /// What is done at a ticket. Each call picks it.
-pub trait Said {
+pub trait DrawnAct {
     ghost use Rattle.std.specs.Prelude.{ℕ};
     ghost use Rattle.cl_value.specs.Plain.{PlainWhat};
 
@@ -84,7 +84,7 @@ pub trait Said {
     ghost what: { PlainWhat };
 }
 
-impl Said for Brand {
+impl DrawnAct for Brand {
     ghost use Rattle.std.specs.Prelude.{[]};
     ghost use Rattle.cl_value.specs.Plain.{DidOut};
 
@@ -94,10 +94,10 @@ impl Said for Brand {
 }
 
 pub struct Draws<W> {
-    said: PhantomData<W>,
+    act: PhantomData<W>,
 }
 
-impl<W: Said> Play<(), View> for Draws<W> {
+impl<W: DrawnAct> Play<(), View> for Draws<W> {
     ghost use Rattle.std.specs.Prelude.{◌≡◌, []};
     ghost use Rattle.cl_ticket.specs.Steps.{Drawn};
 

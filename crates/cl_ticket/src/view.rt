@@ -1,8 +1,8 @@
 // What a seat knows, as plain data.
 ghost use Rattle.std.specs.Prelude.{ℕ, List};
 ghost use Rattle.cl_value.specs.Plain.{PlainHistory};
-ghost use Rattle.cl_ticket.specs.Persons.{Birth, Person};
-ghost use Rattle.cl_ticket.specs.Codes.{numbers_coded, histories_coded, persons_coded, births_coded};
+ghost use Rattle.cl_ticket.specs.Participants.{Birth, Participant};
+ghost use Rattle.cl_ticket.specs.Codes.{numbers_coded, histories_coded, participants_coded, births_coded};
 
 use std::marker::Model;
 
@@ -11,7 +11,7 @@ use std::marker::Model;
 pub struct View {
     pub ghost opening: { List ℕ } by { numbers_coded },
     pub ghost sets: { List PlainHistory } by { histories_coded },
-    pub ghost persons: { List Person } by { persons_coded },
+    pub ghost participants: { List Participant } by { participants_coded },
     pub ghost unborn: { List Birth } by { births_coded },
 }
 

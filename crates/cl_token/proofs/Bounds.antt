@@ -14,13 +14,6 @@ true_is_false e = cc
 pub within : (low high byte : ℕ) → is_between low high byte ≡ true → (low ≤ byte) × (byte ≤ high)
 within low high byte e = let both = and_parts (leb low byte) (leb byte high) e in (leb-true low byte both.0, leb-true byte high both.1)
 
-pub not_between : (low high byte : ℕ) → (byte < low) ⊎ (high < byte) → is_between low high byte ≡ false
-not_between low high byte out =
-    elim (cases_Bool (is_between low high byte)) [
-      | inl t ↦ let w = within low high byte t in elim out [ inl a ↦ absurd (omega (arith, w, a)) | inr b ↦ absurd (omega (arith, w, b)) ]
-      | inr f ↦ f
-    ]
-
 -- a separator is at most 32
 pub separator_bound : (byte : ℕ) → is_separator byte ≡ true → byte ≤ 32
 separator_bound byte e =

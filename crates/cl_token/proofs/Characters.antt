@@ -45,9 +45,6 @@ pub record NoMore (bytes : List ℕ) : Type 0 where
   pub row : map character_meaning (string_row bytes) ≡ []
   pub after : after_string_row bytes ≡ bytes
 
-some_is_none : (x : ℕ × List ℕ) → ◌≡◌ {A = Option (ℕ × List ℕ)} (Some x) None → ⊥
-some_is_none x e = cc
-
 pub string_stops : (bytes : List ℕ) → ◌≡◌ {A = Option (ℕ × List ℕ)} None (meant (string_head bytes)) → NoMore bytes
 string_stops [] e = record { row = refl; after = refl }
 string_stops (byte ∷ []) e =

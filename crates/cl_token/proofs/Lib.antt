@@ -1,4 +1,3 @@
-pub mod Betweens
 pub mod Bounds
 pub mod Characters
 pub mod Closing

@@ -6,7 +6,7 @@ use Rattle.cl_ast.specs.Plain.{PlainKind, Str, Character}
 use Rattle.cl_ast.specs.Bytes.{is_digit, is_hexadecimal_digit, is_name_byte, is_suffix, is_x, is_string_byte, is_character_byte, is_escape, is_character_escape, begins_with}
 use Rattle.cl_ast.specs.Lexemes.{Spelled, Itself, Escape, Lexeme, Decimal, Hexadecimal, Quoted, Text, character_spelling, characters_spelling, character_meaning, lexeme_spelling, lexeme_kind, lexeme_goes_on, is_decimal, is_hexadecimal, is_a_suffix, value_on, number_kind, fits_long, is_string_character, is_character}
 use Rattle.cl_ast.specs.Rows.{front_run, after_run, behind_first, string_row, after_string_row, character_at, after_prefix, decimal_row, after_decimal_row, suffix_row, after_suffix}
-use Rattle.cl_ast.specs.Ends.{LiteralEnd, NoLiteral, Ends, is_cut, is_line_cut, behind_digits, hexadecimal_end, decimal_end, based_end, string_end, character_end_behind, character_end, literal_end}
+use Rattle.cl_ast.specs.Ends.{Ends, is_cut, is_line_cut, behind_digits, hexadecimal_end, decimal_end, based_end, string_end, character_end_behind, character_end, literal_end}
 use Rattle.cl_token.proofs.Bounds.{chosen}
 use Rattle.cl_token.proofs.Runs.{row_joins, front_all, front_passes}
 
@@ -23,9 +23,6 @@ never (byte ∷ rest) = refl
 
 ends_same : (k k' : PlainKind) (r r' : List ℕ) → Ends k r ≡ Ends k' r' → (k ≡ k') × (r ≡ r')
 ends_same k k' r r' e = (cc, cc)
-
-fails_ends : (x : LiteralEnd) (k : PlainKind) (r : List ℕ) → x ≡ Ends k r → x ≡ NoLiteral → ⊥
-fails_ends x k r e f = let g : Ends k r ≡ NoLiteral = sym e ∙ f in cc
 
 -- ---- numbers
 

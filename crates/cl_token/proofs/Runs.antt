@@ -1,7 +1,7 @@
 -- The longest rows of bytes.
 use Rattle.std.proofs.Common.{◌≡◌, ℕ, Bool, true, false, eqb, List, [], ◌∷◌, ◌++◌, refl, sym, ap, ◌∙◌, inl, inr, add-one}
 use Rattle.std.specs.List.{list_all}
-use Rattle.std.proofs.lemmas.Bool.{cases_Bool, and_from, and_parts, eqb-true, eq-eqb}
+use Rattle.std.proofs.lemmas.Bool.{cases_Bool, and_from, and_parts, eqb-true}
 use Rattle.std.proofs.lemmas.List.{take-append-drop}
 use Rattle.cl_ast.specs.Bytes.{begins_with}
 use Rattle.cl_ast.specs.Lexemes.{same_bytes}
@@ -62,7 +62,3 @@ same_is (x ∷ xs) (y ∷ ys) e =
     let head : x ≡ y = eqb-true x y both.0 in
     let tail : xs ≡ ys = same_is xs ys both.1 in
     cc
-
-pub same_self : (a : List ℕ) → same_bytes a a ≡ true
-same_self [] = refl
-same_self (x ∷ xs) = and_from (eqb x x) (same_bytes xs xs) (eq-eqb x x refl) (same_self xs)

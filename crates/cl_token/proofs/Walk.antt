@@ -30,9 +30,6 @@ pub record Reached (source : List ℕ) (fresh : Bool) (rest : List ℕ) (tokens 
   pub leads : Leads true source pieces fresh rest
   pub tokens_are : tokens ≡ tokens_of 0 pieces
 
-pub at_front : (source : List ℕ) → Reached source true source []
-at_front source = record { pieces = []; leads = (refl, refl); tokens_are = refl }
-
 pub leads_on : (ps : List Piece) (fresh fresh' : Bool) (bytes mid : List ℕ) (p : Piece) (rest : List ℕ) → Leads fresh bytes ps fresh' mid → IsFirst fresh' mid p rest → Leads fresh bytes (ps ++ p ∷ []) (fresh_behind fresh' p) rest
 leads_on [] fresh fresh' bytes mid p rest l first = rw (l.0, l.1) (rest, first, (refl, refl))
 leads_on (q ∷ ps) fresh fresh' bytes mid p rest l first = (l.0, l.1, leads_on ps (fresh_behind fresh q) fresh' l.0 mid p rest l.2 first)

@@ -1,6 +1,6 @@
 -- What the lexer tells of a source. (This project.)
 use Rattle.std.specs.Prelude.{ℕ, ◌≡◌, ◌-◌, List, length, map, take, Result, Ok, Err}
-use Rattle.cl_ast.specs.Room.{Room}
+use Rattle.cl_ground.specs.Room.{Room}
 use Rattle.cl_ast.specs.declared.token.Token.{Token}
 use Rattle.cl_ast.specs.declared.fault.LexKind.{LexKind}
 use Rattle.cl_ast.specs.Plain.{PlainToken}
@@ -40,5 +40,6 @@ pub record SameFault (place place' : ℕ) (kind kind' : LexKind) : Type 0 where
   pub same_place : place ≡ place'
   pub same_kind : kind ≡ kind'
 
+-- a source has at most one first fault
 abbrev pub OneFault : Type 0
 OneFault = (source : List ℕ) (place place' : ℕ) (kind kind' : LexKind) → IsFaultAt source place kind → IsFaultAt source place' kind' → SameFault place place' kind kind'

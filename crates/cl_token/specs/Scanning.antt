@@ -43,6 +43,7 @@ abbrev pub two_marks : Option Mark → List ℕ → Option (Mark × List ℕ) �
 two_marks (Some mark) rest other = Some (mark, rest)
 two_marks None rest other = other
 
+-- the same of all bytes that are left
 abbrev pub mark_at : List ℕ → Option (Mark × List ℕ)
 mark_at [] = None
 mark_at (byte ∷ []) = one_mark (mark_of (byte ∷ [])) []
@@ -58,6 +59,7 @@ pub data Step : Type 0 where
   Goes : (tokens : List PlainToken) (fresh : Bool) (rest : List ℕ) → Step
   Stops : (fault : LexKind) (bad : List ℕ) → Step
 
+-- a name or a word at the front is read
 abbrev pub word_step : ℕ → List PlainToken → List ℕ → Step
 word_step total tokens bytes =
     let rest = after_run is_name_byte bytes in
@@ -67,6 +69,7 @@ abbrev pub mark_step_of : ℕ → List PlainToken → List ℕ → Option (Mark 
 mark_step_of total tokens bytes None = Stops faults.BadByte bytes
 mark_step_of total tokens bytes (Some x) = Goes (tokens ++ token_between total (Punctuator x.0) bytes x.1 ∷ []) false x.1
 
+-- a mark at the front is read
 abbrev pub mark_step : ℕ → List PlainToken → List ℕ → Step
 mark_step total tokens bytes = mark_step_of total tokens bytes (mark_at bytes)
 
@@ -86,6 +89,7 @@ abbrev pub literal_tokens : ℕ → List ℕ → LiteralEnd → List PlainToken
 literal_tokens total bytes (Ends kind rest) = token_between total kind bytes rest ∷ []
 literal_tokens total bytes _ = []
 
+-- the minus of a line that defines, if one is there
 abbrev pub minus_between : ℕ → List ℕ → List PlainToken
 minus_between total bytes = if begins_with (λ byte. byte == 45) bytes then token_between total (Punctuator marks.Minus) bytes (behind_first bytes) ∷ [] else []
 
@@ -111,6 +115,7 @@ line_step_of total tokens bytes (LineEnds rest) = Goes (tokens ++ line_tokens to
 line_step_of total tokens bytes (LineFails fault bad) = Stops fault bad
 line_step_of total tokens bytes NoLine = Stops faults.BadDirective bytes
 
+-- a line that begins with `#` is read
 abbrev pub line_step : ℕ → List PlainToken → List ℕ → Step
 line_step total tokens bytes = line_step_of total tokens bytes (line_end (behind_first bytes))
 

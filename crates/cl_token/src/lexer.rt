@@ -2,7 +2,8 @@
 
 use crate::scan::{Place, step};
 use crate::stop::Stop;
-use cl_ast::{Items, LexKind, Token};
+use cl_ast::{LexKind, Token};
+use cl_ground::Items;
 use std::alloc::Global;
 
 /// Why there are no tokens.
@@ -14,6 +15,7 @@ pub enum LexEnd {
     NoMemory,
 }
 
+ghost use Rattle.cl_ground.specs.declared.limits.TheConstants.{MOST_BYTES};
 ghost use Rattle.std.specs.Prelude.{◌≡◌, ◌≤◌, ◌<◌, List, map, length, IfOk, IfSome};
 ghost use Rattle.cl_ast.specs.Plain.{PlainToken};
 ghost use Rattle.cl_ast.specs.Splits.{Splits};
@@ -29,7 +31,7 @@ fn advance<'a>(
     total: usize,
     place: &Place<'a>,
 ) -> Result<Option<Place<'a>>, Stop<'a>>
-    requires { total ≤ 1048576 }
+    requires { total ≤ MOST_BYTES }
     ensures step { Advances result (map plain_token tokens.old.items) (map plain_token tokens.new.items) place.now.rest.now (step_at total (map plain_token tokens.old.items) place.now.fresh place.now.rest.now) }
     ensures within { IfOk result (λ found. IfSome found (λ after. length after.rest.now < length place.now.rest.now)) }
 {
@@ -41,7 +43,7 @@ fn advance<'a>(
 
 // What a stop in a source of so many bytes comes to.
 fn end_of(total: usize, stop: Stop<'_>) -> LexEnd
-    requires { total ≤ 1048576 }
+    requires { total ≤ MOST_BYTES }
     ensures { TellsEnd stop.entry total result }
 {
     match stop {
@@ -58,7 +60,7 @@ fn end_of(total: usize, stop: Stop<'_>) -> LexEnd
 /// `Fault` comes exactly where the grammar splits the source into no tokens, and tells the first place where
 /// scanning from the left can't go on. `NoMemory` comes where a growth was refused.
 pub fn lex(alloc: Global, src: &[u8]) -> Result<Items<Token>, LexEnd>
-    requires { length src.now ≤ 1048576 }
+    requires { length src.now ≤ MOST_BYTES }
     ensures tokens { IfOk result (λ tokens. Splits src.now (map plain_token tokens.items)) }
     ensures only { (tokens : List PlainToken) → Splits src.now tokens → IsOnly result tokens }
     ensures fault { TellsFault result src.now }

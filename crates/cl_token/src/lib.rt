@@ -13,8 +13,6 @@ mod put;
 mod scan;
 mod stop;
 mod table;
-#[cfg(test)]
-mod tests;
 
 pub use cl_ast::LexKind;
 pub use lexer::{LexEnd, lex};

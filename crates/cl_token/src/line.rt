@@ -1,5 +1,6 @@
 //! Lines with `#`.
 
+ghost use Rattle.cl_ground.specs.declared.limits.TheConstants.{MOST_BYTES};
 ghost use Rattle.std.specs.Prelude.{◌≡◌, ◌<◌, ◌≤◌, ◌∷◌, ◌++◌, map, length, IfOk, IfSome, OnOk};
 ghost use Rattle.cl_ast.specs.Views.{plain_kind, plain_token};
 ghost use Rattle.cl_ast.specs.Pieces.{is_name_kind, is_literal_kind};
@@ -14,7 +15,8 @@ use crate::literal::literal;
 use crate::put::put;
 use crate::stop::{Read, Stop};
 use crate::table::{is_same, letters_kind};
-use cl_ast::{Items, LexKind, Mark, NoMemory, Token, TokenKind};
+use cl_ast::{LexKind, Mark, Token, TokenKind};
+use cl_ground::{Items, NoMemory};
 use std::alloc::Global;
 
 // Whether the bytes begin with a letter or `_`.
@@ -87,7 +89,7 @@ fn head_at(alloc: Global, behind: &[u8]) -> Result<Option<Head<'_>>, NoMemory>
 
 // Puts the minus last that may stand here, and gives the place of the literal.
 fn minus<'a>(tokens: &mut Items<Token>, total: usize, value: &'a [u8]) -> Result<&'a [u8], NoMemory>
-    requires { total ≤ 1048576 }
+    requires { total ≤ MOST_BYTES }
     ensures place { IfOk result (λ place. place.now ≡ after_minus value.now) }
     ensures within { IfOk result (λ place. length place.now ≤ length value.now) }
     ensures tokens { OnOk result (map plain_token tokens.new.items ≡ map plain_token tokens.old.items ++ minus_between total value.now) }
@@ -136,7 +138,7 @@ fn value<'a>(
     total: usize,
     place: &'a [u8],
 ) -> Result<Option<&'a [u8]>, Stop<'a>>
-    requires { total ≤ 1048576 }
+    requires { total ≤ MOST_BYTES }
     ensures end { ReadsLine result (behind_literal (literal_end place.now)) }
     ensures within { IfOk result (λ found. IfSome found (λ rest. length rest.now ≤ length place.now)) }
     ensures tokens { AddsTokens result (map plain_token tokens.old.items) (map plain_token tokens.new.items) (literal_tokens total place.now (literal_end place.now)) }
@@ -162,7 +164,7 @@ fn define<'a>(
     bytes: &'a [u8],
     behind: &'a [u8],
 ) -> Result<Option<&'a [u8]>, Stop<'a>>
-    requires { total ≤ 1048576 }
+    requires { total ≤ MOST_BYTES }
     ensures end { ReadsLine result (define_end behind.now) }
     ensures within { IfOk result (λ found. IfSome found (λ rest. length rest.now ≤ length behind.now)) }
     ensures tokens { AddsTokens result (map plain_token tokens.old.items) (map plain_token tokens.new.items) (define_between total bytes.now behind.now) }
@@ -185,7 +187,7 @@ pub fn line<'a>(
     bytes: &'a [u8],
     behind: &'a [u8],
 ) -> Result<Option<&'a [u8]>, Stop<'a>>
-    requires small { total ≤ 1048576 }
+    requires small { total ≤ MOST_BYTES }
     requires whole { bytes.now ≡ 35 ∷ behind.now }
     ensures end { ReadsLine result (line_end behind.now) }
     ensures within { IfOk result (λ found. IfSome found (λ rest. length rest.now ≤ length behind.now)) }

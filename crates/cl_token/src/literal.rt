@@ -14,7 +14,8 @@ use crate::byte::{
     is_character_escape, is_escape, is_of, is_string_byte, is_x, split_run,
 };
 use crate::stop::{Read, Stop};
-use cl_ast::{Items, LexKind, NoMemory, TokenKind};
+use cl_ast::{LexKind, TokenKind};
+use cl_ground::{Items, NoMemory};
 use std::alloc::Global;
 
 // The greatest `int` and the greatest `long`.

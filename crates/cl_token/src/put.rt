@@ -1,14 +1,16 @@
 //! Putting a token last.
 
+ghost use Rattle.cl_ground.specs.declared.limits.TheConstants.{MOST_BYTES};
 ghost use Rattle.std.specs.Prelude.{◌≡◌, ◌≤◌, ◌++◌, ◌∷◌, [], map, length, OnOk};
 ghost use Rattle.cl_ast.specs.Views.{plain_kind, plain_token};
 ghost use Rattle.cl_token.specs.Scanning.{token_between};
 
-use cl_ast::{Items, NoMemory, Span, Token, TokenKind};
+use cl_ast::{Span, Token, TokenKind};
+use cl_ground::{Items, NoMemory};
 
 // The offset of the first of these bytes in a source of so many.
 fn offset(total: usize, bytes: &[u8]) -> u32
-    requires { total ≤ 1048576 }
+    requires { total ≤ MOST_BYTES }
     ensures { result ≡ total - length bytes.now }
 {
     total.saturating_sub(bytes.len()) as u32
@@ -26,7 +28,7 @@ pub fn put(
     bytes: &[u8],
     rest: &[u8],
 ) -> Result<(), NoMemory>
-    requires { total ≤ 1048576 }
+    requires { total ≤ MOST_BYTES }
     ensures { OnOk result (map plain_token tokens.new.items ≡ map plain_token tokens.old.items ++ token_between total (plain_kind kind) bytes.now rest.now ∷ []) }
 {
     tokens.reserve(1)?;

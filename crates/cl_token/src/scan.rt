@@ -1,5 +1,6 @@
 //! One part of a source after another.
 
+ghost use Rattle.cl_ground.specs.declared.limits.TheConstants.{MOST_BYTES};
 ghost use Rattle.std.specs.Prelude.{◌≡◌, ◌==◌, ◌<◌, ◌≤◌, ◌∷◌, ◌&&◌, ◌||◌, false, map, length, IfOk};
 ghost use Rattle.cl_ast.specs.Bytes.{is_line_end, is_space};
 ghost use Rattle.cl_ast.specs.Views.{plain_kind, plain_token};
@@ -14,7 +15,8 @@ use crate::literal::literal;
 use crate::put::put;
 use crate::stop::Stop;
 use crate::table::{letters_kind, mark_at};
-use cl_ast::{Items, LexKind, Token, TokenKind};
+use cl_ast::{LexKind, Token, TokenKind};
+use cl_ground::Items;
 use std::alloc::Global;
 
 /// A place between two parts of a source: the bytes behind it, and whether only spaces and tabs stand
@@ -32,7 +34,7 @@ fn word<'a>(
     total: usize,
     bytes: &'a [u8],
 ) -> Result<Place<'a>, Stop<'a>>
-    requires { total ≤ 1048576 }
+    requires { total ≤ MOST_BYTES }
     ensures step { StepsTo result (map plain_token tokens.new.items) (word_step total (map plain_token tokens.old.items) bytes.now) }
 {
     let (row, rest) = split_run(Kind::NameByte, bytes);
@@ -43,7 +45,7 @@ fn word<'a>(
 
 // A mark.
 fn mark<'a>(tokens: &mut Items<Token>, total: usize, bytes: &'a [u8]) -> Result<Place<'a>, Stop<'a>>
-    requires { total ≤ 1048576 }
+    requires { total ≤ MOST_BYTES }
     ensures step { StepsTo result (map plain_token tokens.new.items) (mark_step total (map plain_token tokens.old.items) bytes.now) }
     ensures within { IfOk result (λ place. length place.rest.now < length bytes.now) }
 {
@@ -61,7 +63,7 @@ fn slash<'a>(
     bytes: &'a [u8],
     behind: &'a [u8],
 ) -> Result<Place<'a>, Stop<'a>>
-    requires small { total ≤ 1048576 }
+    requires small { total ≤ MOST_BYTES }
     requires whole { bytes.now ≡ 47 ∷ behind.now }
     ensures step { StepsTo result (map plain_token tokens.new.items) (slash_step total (map plain_token tokens.old.items) bytes.now behind.now) }
     ensures within { IfOk result (λ place. length place.rest.now < length bytes.now) }
@@ -87,7 +89,7 @@ fn directive<'a>(
     bytes: &'a [u8],
     behind: &'a [u8],
 ) -> Result<Place<'a>, Stop<'a>>
-    requires small { total ≤ 1048576 }
+    requires small { total ≤ MOST_BYTES }
     requires whole { bytes.now ≡ 35 ∷ behind.now }
     ensures step { StepsTo result (map plain_token tokens.new.items) (line_step total (map plain_token tokens.old.items) bytes.now) }
     ensures within { IfOk result (λ place. length place.rest.now < length bytes.now) }
@@ -107,7 +109,7 @@ fn other<'a>(
     byte: u8,
     behind: &'a [u8],
 ) -> Result<Place<'a>, Stop<'a>>
-    requires small { total ≤ 1048576 }
+    requires small { total ≤ MOST_BYTES }
     requires whole { place.now.rest.now ≡ byte ∷ behind.now }
     ensures step { StepsTo result (map plain_token tokens.new.items) (other_step total (map plain_token tokens.old.items) place.now.fresh byte behind.now) }
     ensures within { IfOk result (λ after. length after.rest.now < length place.now.rest.now) }
@@ -131,7 +133,7 @@ pub fn step<'a>(
     byte: u8,
     behind: &'a [u8],
 ) -> Result<Place<'a>, Stop<'a>>
-    requires small { total ≤ 1048576 }
+    requires small { total ≤ MOST_BYTES }
     requires whole { place.now.rest.now ≡ byte ∷ behind.now }
     ensures step { StepsTo result (map plain_token tokens.new.items) (step total (map plain_token tokens.old.items) place.now.fresh byte behind.now) }
     ensures within { IfOk result (λ after. length after.rest.now < length place.now.rest.now) }

@@ -1,6 +1,7 @@
 //! What reading a part of a source gives, and why it stops.
 
-use cl_ast::{LexKind, NoMemory, TokenKind};
+use cl_ast::{LexKind, TokenKind};
+use cl_ground::NoMemory;
 
 /// A token that was read, and the bytes behind it.
 #[derive(Drop)]

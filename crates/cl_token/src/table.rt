@@ -6,7 +6,8 @@ ghost use Rattle.cl_ast.specs.Lexemes.{same_bytes, look_up, word_of, is_reserved
 ghost use Rattle.cl_ast.specs.Views.{plain_kind};
 ghost use Rattle.cl_token.specs.Scanning.{mark_at};
 
-use cl_ast::{Items, MARKS, Mark, NoMemory, RESERVED, TokenKind, WORDS, Word};
+use cl_ast::{MARKS, Mark, RESERVED, TokenKind, WORDS, Word};
+use cl_ground::{Items, NoMemory};
 use std::alloc::Global;
 
 /// Whether the bytes are the same.

@@ -1,12 +1,10 @@
 -- The directives of a text, read byte by byte.
-use Rattle.std.proofs.Common.{◌≡◌, ◌∙◌, ◌≤◌, ◌+◌, ap, sym, refl, ℕ, List, [], ◌∷◌, ◌++◌, drop, length, Option, Some, None, append_assoc}
+use Rattle.std.proofs.Common.{◌≡◌, ◌∙◌, ◌+◌, ap, sym, refl, ℕ, List, [], ◌∷◌, ◌++◌, drop, Option, Some, None, append_assoc}
 use Rattle.std.proofs.lemmas.List.{append-nil}
 use Rattle.cl_types.specs.declared.directive.Directive.{Directive}
 use Rattle.cl_types.specs.declared.format.Stage.{Stage}
-use Rattle.cl_types.specs.declared.format.Stage.TheVariants as stages
 use Rattle.cl_types.specs.declared.format.Step.{Step}
-use Rattle.cl_types.specs.Formats.{step_of, with_directive, listed, end_of, directives_behind, directives_from, directives_of}
-use Rattle.cl_types.proofs.Judging.{drop_end}
+use Rattle.cl_types.specs.Formats.{step_of, with_directive, listed, directives_behind, directives_from, directives_of}
 
 abbrev pub onto : List Directive → Option (List Directive) → Option (List Directive)
 onto ds None = None
@@ -30,14 +28,3 @@ byte_turn text i b stage found found' step o h at ho is put =
     ∙ (ap (λ p. onto found (directives_behind (directives_from (drop (i + 1) text)) p)) (sym ho ∙ is)
     ∙ (onto_with found step.directive (directives_from (drop (i + 1) text) step.stage)
     ∙ ap (λ ds. onto ds (directives_from (drop (i + 1) text) step.stage)) (sym put))))
-
-pub byte_stops : (text : List ℕ) (i b : ℕ) (stage : Stage) (found : List Directive) (o : Option Step) → directives_of text ≡ onto found (directives_from (drop i text) stage) →
-    drop i text ≡ b ∷ drop (i + 1) text → o ≡ step_of stage b → o ≡ None → directives_of text ≡ None
-byte_stops text i b stage found o h at ho is =
-    h ∙ (ap (λ bs. onto found (directives_from bs stage)) at ∙ ap (λ p. onto found (directives_behind (directives_from (drop (i + 1) text)) p)) (sym ho ∙ is))
-
-pub bytes_end : (text : List ℕ) (i : ℕ) (stage : Stage) (found : List Directive) → directives_of text ≡ onto found (directives_from (drop i text) stage) → length text ≤ i → directives_of text ≡ onto found (end_of stage)
-bytes_end text i stage found h past = h ∙ ap (λ bs. onto found (directives_from bs stage)) (drop_end text i past)
-
-pub ends_text : (text : List ℕ) (stage : Stage) (found : List Directive) → directives_of text ≡ onto found (end_of stage) → stage ≡ stages.Text → Some found ≡ directives_of text
-ends_text text stage found h is = sym (h ∙ (ap (λ s. onto found (end_of s)) is ∙ ap (λ ds. Some ds) (append-nil found)))

@@ -14,13 +14,12 @@ use Rattle.cl_ast.specs.declared.tree.Spanned.{Spanned}
 use Rattle.cl_ast.specs.declared.statement.Stmt.{Stmt}
 use Rattle.cl_ast.specs.declared.statement.Stmt.TheVariants as stmts
 use Rattle.cl_ast.specs.declared.statement.Block.{Block, out-Block}
-use Rattle.cl_ast.specs.declared.statement.Do.{Do}
-use Rattle.cl_ast.specs.declared.statement.For.{For}
-use Rattle.cl_ast.specs.declared.statement.If.{If}
-use Rattle.cl_ast.specs.declared.statement.While.{While}
-use Rattle.cl_ast.specs.declared.statement.Stmt.TheFolds as s
-use Rattle.cl_ast.specs.declared.statement.Stmt.TheOpen.{Stmt-F, Block-F, Do-F, For-F, If-F, While-F}
-use Rattle.cl_ast.specs.declared.statement.Stmt.TheViews.{out-Stmt, roll-Stmt, roll-Block, roll-Do, roll-For, roll-If, roll-While, roll-out-Stmt, out-roll-Block, out-roll-Do, out-roll-For, out-roll-If, out-roll-While}
+use Rattle.cl_ast.specs.declared.statement.Do.{Do, out-Do}
+use Rattle.cl_ast.specs.declared.statement.For.{For, out-For}
+use Rattle.cl_ast.specs.declared.statement.If.{If, out-If}
+use Rattle.cl_ast.specs.declared.statement.While.{While, out-While}
+use Rattle.cl_ast.specs.declared.statement.Stmt.TheOpen.{Stmt-F}
+use Rattle.cl_ast.specs.declared.statement.Stmt.TheViews.{out-Stmt, roll-Stmt, roll-out-Stmt}
 use Rattle.cl_ast.specs.declared.statement.Declarator.{Declarator}
 use Rattle.cl_ast.specs.declared.statement.Form.{Form}
 use Rattle.cl_ast.specs.declared.statement.Form.TheVariants as given
@@ -36,6 +35,7 @@ use Rattle.cl_ast.specs.declared.statement.Return.{Return}
 use Rattle.cl_ast.specs.declared.statement.Function.{Function}
 use Rattle.cl_ast.specs.declared.statement.Item.{Item}
 use Rattle.cl_ast.specs.declared.statement.Item.TheVariants as items
+use Rattle.cl_ast.proofs.Inductions.{StmtGoods, every_block as inductive_block}
 use Rattle.cl_types.specs.declared.context.Access.TheVariants as accesses
 use Rattle.cl_types.specs.declared.context.Context.{Context}
 use Rattle.cl_types.specs.declared.context.Purpose.TheVariants as purposes
@@ -43,29 +43,27 @@ use Rattle.cl_types.specs.declared.context.Reach.{Reach}
 use Rattle.cl_types.specs.declared.context.Reach.TheVariants as reaches
 use Rattle.cl_types.specs.declared.directive.Directive.{Directive}
 use Rattle.cl_types.specs.declared.fault.TypeKind.TheVariants as kinds
-use Rattle.cl_types.specs.Notes.{Note, found, found_all}
-use Rattle.cl_types.specs.Notes as notes
+use Rattle.cl_types.specs.Notes.{Note, found_all}
 use Rattle.cl_types.specs.Numbers.{plain_number}
 use Rattle.cl_types.specs.Declarations.{Known, look_up, is_declared_here, enter, declared_again}
 use Rattle.cl_types.specs.Expressions.{judged, judged_place, count_faults, constant_of}
 use Rattle.cl_types.specs.Formats.{directives_of}
 use Rattle.cl_types.specs.Statements.{Walked, in_order, in_context, in_loop, scoped_notes, maybe_notes, test_notes, size_kind, size_faults, size_notes, initial_faults, form_notes, declarator_walked, change_notes, assign_notes, argument_faults, argument_notes, arguments_notes, print_parts, print_notes, value_return_faults, value_notes, leave_notes, walked, block_walked}
-use Rattle.cl_types.specs.Loops.{if_notes, while_notes, do_notes, for_notes}
 use Rattle.cl_types.specs.Items.{function_context, function_known, parameter_walked, parameters_walked, has_main, body_walked, item_walked, items_walked, known_first}
 use Rattle.cl_types.specs.Unit.{main_notes, unit_notes, faults}
 use Rattle.cl_types.specs.declared.fields.site.Site.{Site}
 use Rattle.cl_types.specs.Findings.{Finding, Forms, tell_own, told, seen}
 use Rattle.cl_types.specs.Fields.{expr_forms, place_forms}
-use Rattle.cl_types.specs.Gathered.{each, maybe_forms}
+use Rattle.cl_types.specs.Gathered.{maybe_forms}
 use Rattle.cl_types.specs.Found.{onward, change_forms, assign_forms, initial_forms, variable_behind, declarator_forms, printed_forms, anywhere, known_behind, stmt_forms, block_forms, item_forms, item_behind, findings, sites_of}
-use Rattle.cl_types.specs.Adds.{alone_forms, maybe_stmt_forms, if_parts, while_parts, do_parts, for_parts}
+use Rattle.cl_types.specs.Adds.{alone_forms, maybe_stmt_forms}
 use Rattle.cl_types.specs.EachTyped.{IsFound, EachTyped, EachNarrow}
 use Rattle.cl_types.proofs.Sentences as sentences
 use Rattle.cl_types.proofs.Stating as stating
 use Rattle.cl_types.proofs.Clean.{Clean, clean_unit, sites_in, sites_append, quiet_found, quiet_if, quiet_unless, few_unit}
 use Rattle.cl_types.proofs.Welltyped as parts
 use Rattle.cl_types.proofs.Welltyped.{Fine, Sound, holds_is, nothing}
-use Rattle.cl_types.proofs.Inductions.{every_expr, every_place, every_call, every_operation}
+use Rattle.cl_types.proofs.Welltyped.{every_expr, every_place, every_call, every_operation}
 
 -- ---- two parts
 
@@ -177,65 +175,18 @@ GoodStmt x = (context : Context) (known : Known) → Sound (walked x context kno
 abbrev GoodBlock : Block → Type 0
 GoodBlock x = (context : Context) (known : Known) → Sound (block_walked x context known).notes (block_forms x known)
 
-abbrev GoodDo : Do → Type 0
-GoodDo x = (context : Context) (known : Known) → Sound (do_notes x context known) (do_parts x known)
-
-abbrev GoodFor : For → Type 0
-GoodFor x = (context : Context) (known : Known) → Sound (for_notes x context known) (for_parts x known)
-
-abbrev GoodIf : If → Type 0
-GoodIf x = (context : Context) (known : Known) → Sound (if_notes x context known) (if_parts x known)
-
-abbrev GoodWhile : While → Type 0
-GoodWhile x = (context : Context) (known : Known) → Sound (while_notes x context known) (while_parts x known)
-
 abbrev SuchStmt : Type 0
 SuchStmt = (y : Stmt) × GoodStmt y
-
-abbrev SuchBlock : Type 0
-SuchBlock = (y : Block) × GoodBlock y
-
-abbrev SuchDo : Type 0
-SuchDo = (y : Do) × GoodDo y
-
-abbrev SuchFor : Type 0
-SuchFor = (y : For) × GoodFor y
-
-abbrev SuchIf : Type 0
-SuchIf = (y : If) × GoodIf y
-
-abbrev SuchWhile : Type 0
-SuchWhile = (y : While) × GoodWhile y
-
--- a layer, without what holds of its parts
-
-abbrev plain-Stmt : Stmt-F SuchStmt SuchBlock SuchDo SuchFor SuchIf SuchWhile → Stmt-F Stmt Block Do For If While
-plain-Stmt y = s.map-Stmt SuchStmt SuchBlock SuchDo SuchFor SuchIf SuchWhile Stmt Block Do For If While (λ z. z.0) (λ z. z.0) (λ z. z.0) (λ z. z.0) (λ z. z.0) (λ z. z.0) y
-
-abbrev plain-Block : Block-F SuchStmt SuchBlock SuchDo SuchFor SuchIf SuchWhile → Block-F Stmt Block Do For If While
-plain-Block y = s.map-Block SuchStmt SuchBlock SuchDo SuchFor SuchIf SuchWhile Stmt Block Do For If While (λ z. z.0) (λ z. z.0) (λ z. z.0) (λ z. z.0) (λ z. z.0) (λ z. z.0) y
-
-abbrev plain-Do : Do-F SuchStmt SuchBlock SuchDo SuchFor SuchIf SuchWhile → Do-F Stmt Block Do For If While
-plain-Do y = s.map-Do SuchStmt SuchBlock SuchDo SuchFor SuchIf SuchWhile Stmt Block Do For If While (λ z. z.0) (λ z. z.0) (λ z. z.0) (λ z. z.0) (λ z. z.0) (λ z. z.0) y
-
-abbrev plain-For : For-F SuchStmt SuchBlock SuchDo SuchFor SuchIf SuchWhile → For-F Stmt Block Do For If While
-plain-For y = s.map-For SuchStmt SuchBlock SuchDo SuchFor SuchIf SuchWhile Stmt Block Do For If While (λ z. z.0) (λ z. z.0) (λ z. z.0) (λ z. z.0) (λ z. z.0) (λ z. z.0) y
-
-abbrev plain-If : If-F SuchStmt SuchBlock SuchDo SuchFor SuchIf SuchWhile → If-F Stmt Block Do For If While
-plain-If y = s.map-If SuchStmt SuchBlock SuchDo SuchFor SuchIf SuchWhile Stmt Block Do For If While (λ z. z.0) (λ z. z.0) (λ z. z.0) (λ z. z.0) (λ z. z.0) (λ z. z.0) y
-
-abbrev plain-While : While-F SuchStmt SuchBlock SuchDo SuchFor SuchIf SuchWhile → While-F Stmt Block Do For If While
-plain-While y = s.map-While SuchStmt SuchBlock SuchDo SuchFor SuchIf SuchWhile Stmt Block Do For If While (λ z. z.0) (λ z. z.0) (λ z. z.0) (λ z. z.0) (λ z. z.0) (λ z. z.0) y
 
 stmt_is : (x : Stmt) (context : Context) (known : Known) (w : Walked) (fs : Forms) → walked x context known ≡ w → stmt_forms x known ≡ fs → Sound w.notes fs → Sound (walked x context known).notes (stmt_forms x known)
 stmt_is x context known w fs hw hf g = sound_is (walked x context known).notes w.notes (stmt_forms x known) fs (ap (λ (v : Walked). v.notes) hw) hf g
 
-scoped_good : (x : SuchStmt) (context : Context) (known : Known) → Sound (scoped_notes (walked x.0) context known) (alone_forms x.0 known)
-scoped_good x context known = x.1 context (enter known)
-
 maybe_good : (x : Option SuchStmt) (context : Context) (known : Known) → Sound (maybe_notes (option_map walked (option_map (λ z. z.0) x)) context known) (maybe_stmt_forms (option_map (λ z. z.0) x) known)
 maybe_good None context known = nothing [] refl
-maybe_good (Some x) context known = scoped_good x context known
+maybe_good (Some x) context known = x.1 context (enter known)
+
+maybe_sound : (x : Option SuchStmt) (y : Option Stmt) → option_map (λ z. z.0) x ≡ y → (context : Context) (known : Known) → Sound (maybe_notes (option_map walked y) context known) (maybe_stmt_forms y known)
+maybe_sound x y is context known = subst (λ (z : Option Stmt). Sound (maybe_notes (option_map walked z) context known) (maybe_stmt_forms z known)) is (maybe_good x context known)
 
 good_block : (x : Block) → GoodBlock x → GoodStmt (stmts.Block x)
 good_block x g context known = stmt_is (stmts.Block x) context known _ _ (sentences.of_block x context known) (stating.of_block x known) (g context (enter known))
@@ -258,17 +209,24 @@ good_operation x context known = stmt_is (stmts.Operation x) context known _ _ (
 good_print : (x : Print) → GoodStmt (stmts.Print x)
 good_print x context known = stmt_is (stmts.Print x) context known _ _ (sentences.of_print x context known) (stating.of_print x known) (sound_print x known)
 
-good_if : (x : If) → GoodIf x → GoodStmt (stmts.If x)
-good_if x g context known = stmt_is (stmts.If x) context known _ _ (sentences.of_if x context known) (stating.of_if x known) (g context known)
+good_if : (x : If) → GoodStmt (out-If x).yes → (other : Option SuchStmt) → option_map (λ z. z.0) other ≡ (out-If x).no → GoodStmt (stmts.If x)
+good_if x chosen other is context known = stmt_is (stmts.If x) context known _ _ (sentences.of_if x context known) (stating.of_if x known)
+    (both (judged (out-If x).test known).notes _ (expr_forms (out-If x).test known) _ (sound_expr (out-If x).test known)
+    (both (scoped_notes (walked (out-If x).yes) context known) _ (alone_forms (out-If x).yes known) _ (chosen context (enter known)) (maybe_sound other (out-If x).no is context known)))
 
-good_while : (x : While) → GoodWhile x → GoodStmt (stmts.While x)
-good_while x g context known = stmt_is (stmts.While x) context known _ _ (sentences.of_while x context known) (stating.of_while x known) (g context known)
+good_while : (x : While) → GoodStmt (out-While x).body → GoodStmt (stmts.While x)
+good_while x body context known = stmt_is (stmts.While x) context known _ _ (sentences.of_while x context known) (stating.of_while x known)
+    (both (judged (out-While x).test known).notes _ (expr_forms (out-While x).test known) _ (sound_expr (out-While x).test known) (body (in_loop context) (enter known)))
 
-good_do : (x : Do) → GoodDo x → GoodStmt (stmts.Do x)
-good_do x g context known = stmt_is (stmts.Do x) context known _ _ (sentences.of_do x context known) (stating.of_do x known) (g context known)
+good_do : (x : Do) → GoodStmt (out-Do x).body → GoodStmt (stmts.Do x)
+good_do x body context known = stmt_is (stmts.Do x) context known _ _ (sentences.of_do x context known) (stating.of_do x known)
+    (both (scoped_notes (walked (out-Do x).body) (in_loop context) known) _ (alone_forms (out-Do x).body known) _ (body (in_loop context) (enter known)) (sound_expr (out-Do x).test known))
 
-good_for : (x : For) → GoodFor x → GoodStmt (stmts.For x)
-good_for x g context known = stmt_is (stmts.For x) context known _ _ (sentences.of_for x context known) (stating.of_for x known) (g context known)
+good_for : (x : For) (first : Option SuchStmt) → option_map (λ z. z.0) first ≡ (out-For x).first → (step : Option SuchStmt) → option_map (λ z. z.0) step ≡ (out-For x).step → GoodStmt (out-For x).body → GoodStmt (stmts.For x)
+good_for x first is step is' body context known = stmt_is (stmts.For x) context known _ _ (sentences.of_for x context known) (stating.of_for x known)
+    (both (maybe_notes (option_map walked (out-For x).first) context known) _ (maybe_stmt_forms (out-For x).first known) _ (maybe_sound first (out-For x).first is context known)
+    (both (test_notes (out-For x).test known) _ (maybe_forms (out-For x).test known) _ (sound_test (out-For x).test known)
+    (both (maybe_notes (option_map walked (out-For x).step) context known) _ (maybe_stmt_forms (out-For x).step known) _ (maybe_sound step (out-For x).step is' context known) (body (in_loop context) (enter known)))))
 
 good_break : (x : Span) → GoodStmt (stmts.Break x)
 good_break x context known = stmt_is (stmts.Break x) context known _ _ (sentences.of_break x context known) (stating.of_break x known) (nothing (leave_notes context x.start) (quiet_unless context.is_in_loop (record { place = x.start; kind = kinds.NoLoop })))
@@ -278,22 +236,6 @@ good_continue x context known = stmt_is (stmts.Continue x) context known _ _ (se
 
 good_return : (x : Return) → GoodStmt (stmts.Return x)
 good_return x context known = stmt_is (stmts.Return x) context known _ _ (sentences.of_return x context known) (stating.of_return x known) (sound_value context x.span.start x.value known)
-
-stmt_step : (y : Stmt-F SuchStmt SuchBlock SuchDo SuchFor SuchIf SuchWhile) → GoodStmt (roll-Stmt (plain-Stmt y))
-stmt_step (Stmt-F.Block x) = subst GoodStmt (sym (stmts.rolls-Block x.0)) (good_block x.0 x.1)
-stmt_step (Stmt-F.Empty x) = subst GoodStmt (sym (stmts.rolls-Empty x)) (good_empty x)
-stmt_step (Stmt-F.Variables x) = subst GoodStmt (sym (stmts.rolls-Variables x)) (good_variables x)
-stmt_step (Stmt-F.Assign x) = subst GoodStmt (sym (stmts.rolls-Assign x)) (good_assign x)
-stmt_step (Stmt-F.Call x) = subst GoodStmt (sym (stmts.rolls-Call x)) (good_call x)
-stmt_step (Stmt-F.Operation x) = subst GoodStmt (sym (stmts.rolls-Operation x)) (good_operation x)
-stmt_step (Stmt-F.Print x) = subst GoodStmt (sym (stmts.rolls-Print x)) (good_print x)
-stmt_step (Stmt-F.If x) = subst GoodStmt (sym (stmts.rolls-If x.0)) (good_if x.0 x.1)
-stmt_step (Stmt-F.While x) = subst GoodStmt (sym (stmts.rolls-While x.0)) (good_while x.0 x.1)
-stmt_step (Stmt-F.Do x) = subst GoodStmt (sym (stmts.rolls-Do x.0)) (good_do x.0 x.1)
-stmt_step (Stmt-F.For x) = subst GoodStmt (sym (stmts.rolls-For x.0)) (good_for x.0 x.1)
-stmt_step (Stmt-F.Break x) = subst GoodStmt (sym (stmts.rolls-Break x)) (good_break x)
-stmt_step (Stmt-F.Continue x) = subst GoodStmt (sym (stmts.rolls-Continue x)) (good_continue x)
-stmt_step (Stmt-F.Return x) = subst GoodStmt (sym (stmts.rolls-Return x)) (good_return x)
 
 statements_good : (ys : List SuchStmt) (context : Context) (known : Known) → Sound (in_order (map (λ y. in_context context (walked y)) (map (λ z. z.0) ys)) known).notes (onward stmt_forms known_behind (map (λ z. z.0) ys) known)
 statements_good [] context known = nothing [] refl
@@ -308,58 +250,11 @@ block_good b ys h context known =
     let P : List Stmt → Type 0 = λ xs. Sound (in_order (map (λ y. in_context context (walked y)) xs) known).notes (onward stmt_forms known_behind xs known) in
     sound_is _ _ _ _ (ap (λ (w : Walked). w.notes) (sentences.block_is b context known)) (stating.block_is b known) (subst P h (statements_good ys context known))
 
-block_step : (y : Block-F SuchStmt SuchBlock SuchDo SuchFor SuchIf SuchWhile) → GoodBlock (roll-Block (plain-Block y))
-block_step y = block_good (roll-Block (plain-Block y)) y.statements (ap (λ (z : Block-F Stmt Block Do For If While). z.statements) (sym (out-roll-Block (plain-Block y))))
-
-do_step : (y : Do-F SuchStmt SuchBlock SuchDo SuchFor SuchIf SuchWhile) → GoodDo (roll-Do (plain-Do y))
-do_step y context known =
-    let P : Do-F Stmt Block Do For If While → Type 0 = λ z. Sound (scoped_notes (walked z.body) (in_loop context) known ++ (judged z.test known).notes) (alone_forms z.body known ++ expr_forms z.test known) in
-    subst P (sym (out-roll-Do (plain-Do y)))
-    (both (scoped_notes (walked y.body.0) (in_loop context) known) (judged y.test known).notes (alone_forms y.body.0 known) (expr_forms y.test known) (scoped_good y.body (in_loop context) known) (sound_expr y.test known))
-
-while_step : (y : While-F SuchStmt SuchBlock SuchDo SuchFor SuchIf SuchWhile) → GoodWhile (roll-While (plain-While y))
-while_step y context known =
-    let P : While-F Stmt Block Do For If While → Type 0 = λ z. Sound ((judged z.test known).notes ++ scoped_notes (walked z.body) (in_loop context) known) (expr_forms z.test known ++ alone_forms z.body known) in
-    subst P (sym (out-roll-While (plain-While y)))
-    (both (judged y.test known).notes (scoped_notes (walked y.body.0) (in_loop context) known) (expr_forms y.test known) (alone_forms y.body.0 known) (sound_expr y.test known) (scoped_good y.body (in_loop context) known))
-
-if_maps : (test : Expr) (x : SuchStmt) (y : Option SuchStmt) (span : Span) →
-    plain-If (record { test = test; yes = x; no = y; span = span }) ≡ record { test = test; yes = x.0; no = option_map (λ z. z.0) y; span = span }
-if_maps test x None span = refl
-if_maps test x (Some y) span = refl
-
-if_step : (y : If-F SuchStmt SuchBlock SuchDo SuchFor SuchIf SuchWhile) → GoodIf (roll-If (plain-If y))
-if_step y context known =
-    let P : If-F Stmt Block Do For If While → Type 0 = λ z. Sound ((judged z.test known).notes ++ (scoped_notes (walked z.yes) context known ++ maybe_notes (option_map walked z.no) context known)) (expr_forms z.test known ++ (alone_forms z.yes known ++ maybe_stmt_forms z.no known)) in
-    let other = option_map (λ z. z.0) y.no in
-    subst P (sym (out-roll-If (plain-If y) ∙ if_maps y.test y.yes y.no y.span))
-    (both (judged y.test known).notes (scoped_notes (walked y.yes.0) context known ++ maybe_notes (option_map walked other) context known) (expr_forms y.test known) (alone_forms y.yes.0 known ++ maybe_stmt_forms other known) (sound_expr y.test known)
-    (both (scoped_notes (walked y.yes.0) context known) (maybe_notes (option_map walked other) context known) (alone_forms y.yes.0 known) (maybe_stmt_forms other known) (scoped_good y.yes context known) (maybe_good y.no context known)))
-
-for_maps : (first : Option SuchStmt) (test : Option Expr) (step : Option SuchStmt) (body : SuchStmt) (span : Span) →
-    plain-For (record { first = first; test = test; step = step; body = body; span = span }) ≡ record { first = option_map (λ z. z.0) first; test = test; step = option_map (λ z. z.0) step; body = body.0; span = span }
-for_maps None test None body span = refl
-for_maps None test (Some y) body span = refl
-for_maps (Some x) test None body span = refl
-for_maps (Some x) test (Some y) body span = refl
-
-for_step : (y : For-F SuchStmt SuchBlock SuchDo SuchFor SuchIf SuchWhile) → GoodFor (roll-For (plain-For y))
-for_step y context known =
-    let P : For-F Stmt Block Do For If While → Type 0 = λ z.
-    Sound (maybe_notes (option_map walked z.first) context known ++ (test_notes z.test known ++ (maybe_notes (option_map walked z.step) context known ++ scoped_notes (walked z.body) (in_loop context) known)))
-    (maybe_stmt_forms z.first known ++ (maybe_forms z.test known ++ (maybe_stmt_forms z.step known ++ alone_forms z.body known))) in
-    let first = option_map (λ z. z.0) y.first in
-    let step = option_map (λ z. z.0) y.step in
-    let third : Sound (maybe_notes (option_map walked step) context known ++ scoped_notes (walked y.body.0) (in_loop context) known) (maybe_stmt_forms step known ++ alone_forms y.body.0 known) =
-    both (maybe_notes (option_map walked step) context known) (scoped_notes (walked y.body.0) (in_loop context) known) (maybe_stmt_forms step known) (alone_forms y.body.0 known) (maybe_good y.step context known) (scoped_good y.body (in_loop context) known) in
-    let second : Sound (test_notes y.test known ++ (maybe_notes (option_map walked step) context known ++ scoped_notes (walked y.body.0) (in_loop context) known)) (maybe_forms y.test known ++ (maybe_stmt_forms step known ++ alone_forms y.body.0 known)) =
-    both (test_notes y.test known) (maybe_notes (option_map walked step) context known ++ scoped_notes (walked y.body.0) (in_loop context) known) (maybe_forms y.test known) (maybe_stmt_forms step known ++ alone_forms y.body.0 known) (sound_test y.test known) third in
-    subst P (sym (out-roll-For (plain-For y) ∙ for_maps y.first y.test y.step y.body y.span))
-    (both (maybe_notes (option_map walked first) context known) (test_notes y.test known ++ (maybe_notes (option_map walked step) context known ++ scoped_notes (walked y.body.0) (in_loop context) known)) (maybe_stmt_forms first known)
-    (maybe_forms y.test known ++ (maybe_stmt_forms step known ++ alone_forms y.body.0 known)) (maybe_good y.first context known) second)
+goods : StmtGoods GoodStmt GoodBlock
+goods = record { block = good_block; empty = good_empty; variables = good_variables; assign = good_assign; call = good_call; operation = good_operation; print = good_print; break = good_break; continue = good_continue; return = good_return; choice = good_if; while_loop = good_while; do_loop = good_do; for_loop = good_for; statements = block_good }
 
 every_block : (x : Block) → GoodBlock x
-every_block = s.ind-Block GoodStmt GoodBlock GoodDo GoodFor GoodIf GoodWhile (λ x y is. subst (λ (z : Stmt-F Stmt Block Do For If While). GoodStmt (roll-Stmt z)) is (stmt_step y)) (λ x y is. subst (λ (z : Block-F Stmt Block Do For If While). GoodBlock (roll-Block z)) is (block_step y)) (λ x y is. subst (λ (z : Do-F Stmt Block Do For If While). GoodDo (roll-Do z)) is (do_step y)) (λ x y is. subst (λ (z : For-F Stmt Block Do For If While). GoodFor (roll-For z)) is (for_step y)) (λ x y is. subst (λ (z : If-F Stmt Block Do For If While). GoodIf (roll-If z)) is (if_step y)) (λ x y is. subst (λ (z : While-F Stmt Block Do For If While). GoodWhile (roll-While z)) is (while_step y))
+every_block = inductive_block goods
 
 -- ---- whole texts
 

@@ -5,12 +5,10 @@ pub mod Faultless
 pub mod Finding
 pub mod Firsts
 pub mod Gathering
-pub mod Inductions
 pub mod Judging
 pub mod Listing
 pub mod Lookups
 pub mod Onward
-pub mod Opens
 pub mod Ordered
 pub mod Parts
 mod Rows

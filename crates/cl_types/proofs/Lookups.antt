@@ -6,7 +6,7 @@ use Rattle.std.proofs.lemmas.Bool.{cases_Bool}
 use Rattle.cl_types.specs.declared.declared.Declared.{Declared}
 use Rattle.cl_types.specs.declared.scopes.Entry.{Entry}
 use Rattle.cl_types.specs.Declarations.{Declaration, Known, same_name, declaration_in, what_of, look_up, enter}
-use Rattle.cl_types.specs.Tables.{declaration_of, place_of, function_of, forgotten, behind_first, left}
+use Rattle.cl_types.specs.Tables.{declaration_of, place_of, function_of, left}
 use Rattle.std.specs.Map.{lookup}
 use Rattle.std.specs.Option.{option_copied, option_to_list}
 use Rattle.std.specs.Cmp.Lexicographic.{pointwise, nat_list_eq_equiv, bytes_decides}
@@ -326,33 +326,10 @@ adds_function k k' fs name what all is more =
 
 -- ---- the end of a scope
 
-drop_last : {A : Type 0} (n : ℕ) (xs : List A) (x : A) → n ≤ length xs → drop n (xs ++ x ∷ []) ≡ drop n xs ++ x ∷ []
-drop_last zero xs x h = refl
-drop_last (suc n) [] x h = absurd (omega arith)
-drop_last (suc n) (y ∷ xs) x h = drop_last n xs x (omega arith)
-
 take_last : {A : Type 0} (n : ℕ) (xs : List A) (x : A) → n ≤ length xs → take n (xs ++ x ∷ []) ≡ take n xs
 take_last zero xs x h = refl
 take_last (suc n) [] x h = absurd (omega arith)
 take_last (suc n) (y ∷ xs) x h = ap (λ zs. y ∷ zs) (take_last n xs x (omega arith))
-
-pub forgets : (start : ℕ) (xs ys : List Entry) (e : Entry) (functions : List Declaration) → xs ≡ ys ++ e ∷ [] → start < length xs → seen ys start functions ≡ forgotten (seen xs start functions)
-forgets start xs ys e functions is more =
-    let long = length-append ys (e ∷ []) in
-    let same = ap length is in
-    let within : start ≤ length ys = omega (arith, long, same, more) in
-    let here : map declaration_of (reverse (drop start ys)) ≡ behind_first (map declaration_of (reverse (drop start xs))) =
-    sym (ap (λ zs. behind_first (map declaration_of (reverse (drop start zs)))) is
-    ∙ ap (λ zs. behind_first (map declaration_of zs)) (ap reverse (drop_last start ys e within) ∙ reverse_last (drop start ys) e)) in
-    let around : map declaration_of (reverse (take start ys)) ≡ map declaration_of (reverse (take start xs)) =
-    sym (ap (λ zs. map declaration_of (reverse (take start zs))) is ∙ ap (λ zs. map declaration_of (reverse zs)) (take_last start ys e within)) in
-    ap (λ h. record { here = h; around = map declaration_of (reverse (take start ys)); functions = functions }) here
-    ∙ ap (λ a. record { here = behind_first (map declaration_of (reverse (drop start xs))); around = a; functions = functions }) around
-
-pub forgets_none : (start : ℕ) (xs : List Entry) (functions : List Declaration) → length xs ≤ start → start ≤ length xs → seen xs start functions ≡ forgotten (seen xs start functions)
-forgets_none start xs functions less within =
-    let none : map declaration_of (reverse (drop start xs)) ≡ [] = ap (λ ys. map declaration_of (reverse ys)) (drop_all start xs (omega arith)) in
-    ap (λ h. record { here = h; around = map declaration_of (reverse (take start xs)); functions = functions }) (none ∙ sym (ap behind_first none))
 
 front : {A : Type 0} (n : ℕ) (xs ys : List A) → n ≡ length xs → take n (xs ++ ys) ≡ xs
 front zero [] ys e = refl

@@ -1,5 +1,5 @@
 -- How the walks over functions and whole sources go together.
-use Rattle.std.proofs.Common.{◌≡◌, ◌∙◌, ◌≤◌, ◌+◌, ap, sym, refl, ℕ, Bool, true, false, List, [], ◌∷◌, ◌++◌, drop, length, Option, Some, None, is_some, Result, OnOk}
+use Rattle.std.proofs.Common.{◌≡◌, ◌∙◌, ◌≤◌, ◌+◌, ap, sym, refl, ℕ, Bool, true, false, List, [], ◌∷◌, ◌++◌, drop, length, Result, OnOk}
 use Rattle.std.specs.Prelude.{if◌then◌else◌}
 use Rattle.cl_ast.specs.declared.statement.Item.{Item}
 use Rattle.cl_ast.specs.declared.statement.Item.TheVariants as items
@@ -9,10 +9,10 @@ use Rattle.cl_types.specs.declared.declared.FunctionType.{FunctionType}
 use Rattle.cl_types.specs.declared.declared.Declared.TheVariants as declareds
 use Rattle.cl_types.specs.Notes as notes
 use Rattle.cl_types.specs.Journals.{noted, noted_all, new_journal}
-use Rattle.cl_types.specs.Declarations.{Known, declaration_in, declare, declared_again, enter}
+use Rattle.cl_types.specs.Declarations.{Known, declare, declared_again, enter}
 use Rattle.cl_types.specs.Statements.{Walked, Part, stays, behind}
 use Rattle.cl_types.specs.Unit.{main_notes, unit_notes}
-use Rattle.cl_types.specs.Items.{function_type, items_walked, known_first, body_walked, function_known, function_walked, function_declared, with_function, with_known, has_main, is_main}
+use Rattle.cl_types.specs.Items.{function_type, items_walked, known_first, body_walked, function_known, function_walked, with_known, has_main, is_main}
 use Rattle.cl_types.specs.Walks.{Does}
 use Rattle.cl_types.proofs.Walking.{on_ok, two_noted}
 use Rattle.cl_types.proofs.Judging.{drop_end}
@@ -39,16 +39,6 @@ function_does f k k1 k4 j j1 j2 j3 hk h1 h2 d = record {
 }
 
 -- ---- the functions of a text
-
-pub added_before : (f : Function) (k : Known) → true ≡ is_some (declaration_in k.functions f.name.bytes) → k ≡ record k { functions = with_function f k.functions }
-added_before f k h = ap (λ b. record k { functions = if b then k.functions else k.functions ++ function_declared f ∷ [] }) h
-
-pub added_now : (f : Function) (k : Known) → false ≡ is_some (declaration_in k.functions f.name.bytes) → record k { functions = k.functions ++ function_declared f ∷ [] } ≡ record k { functions = with_function f k.functions }
-added_now f k h = ap (λ b. record k { functions = if b then k.functions else k.functions ++ function_declared f ∷ [] }) h
-
-pub not_some : {A : Type 0} (x : Option A) → false ≡ is_some x → x ≡ None
-not_some None h = refl
-not_some (Some x) h = cc
 
 with_append : (x : Item) (xs : List Item) (k : Known) → with_known (x ∷ xs) k ≡ with_known xs (with_known (x ∷ []) k)
 with_append (items.Function f) xs k = refl

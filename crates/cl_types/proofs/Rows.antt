@@ -28,7 +28,7 @@ use Rattle.cl_ast.specs.declared.statement.Item.TheVariants as items
 use Rattle.cl_types.specs.declared.fault.TypeKind.{TypeKind}
 use Rattle.cl_types.specs.declared.fault.TypeKind.TheVariants as kinds
 use Rattle.cl_types.specs.declared.fault.Fault.{Fault}
-use Rattle.cl_types.specs.Folds.{folds}
+use Rattle.cl_ast.specs.Folds.{folds}
 use Rattle.cl_types.specs.Expressions.{judged, judged_place, judged_call, operation_notes, constant_of}
 use Rattle.cl_types.specs.Statements.{walked, block_walked}
 use Rattle.cl_types.specs.Unit.{faults}

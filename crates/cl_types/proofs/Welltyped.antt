@@ -18,6 +18,7 @@ use Rattle.cl_ast.specs.declared.tree.Formal.{Formal, out-Formal}
 use Rattle.cl_ast.specs.declared.tree.Chain.{Chain, out-Chain}
 use Rattle.cl_ast.specs.declared.tree.Link.{Link, out-Link}
 use Rattle.cl_ast.specs.declared.tree.Prefix.{Prefix, out-Prefix}
+use Rattle.cl_ast.proofs.Inductions.{ExprGoods, every_expr as inductive_expr, every_place as inductive_place, every_call as inductive_call, every_operation as inductive_operation}
 use Rattle.cl_types.specs.declared.context.Access.{Access}
 use Rattle.cl_types.specs.declared.context.Access.TheVariants as accesses
 use Rattle.cl_types.specs.declared.context.Purpose.{Purpose}
@@ -119,32 +120,32 @@ GoodPrefix x = GoodExpr (out-Prefix x).operand
 
 -- ---- each form of an expression
 
-pub good_literal : (x : Literal) → GoodExpr (exprs.Literal x)
+good_literal : (x : Literal) → GoodExpr (exprs.Literal x)
 good_literal x known =
     good_is (judged (exprs.Literal x) known) (no_notes (Some (literal_type x.value))) _ _ (rules.of_literal x known) (finding.of_literal x known) (record { count = refl; clean = λ (c : Clean []). (tt, tt) })
 
-pub good_place : (x : Place) → GoodPlace x → GoodExpr (exprs.Place x)
+good_place : (x : Place) → GoodPlace x → GoodExpr (exprs.Place x)
 good_place x g known = good_is _ _ _ _ (rules.of_place x known) (finding.of_place x known) (g accesses.Read known)
 
-pub good_call : (x : Call) → GoodCall x → GoodExpr (exprs.Call x)
+good_call : (x : Call) → GoodCall x → GoodExpr (exprs.Call x)
 good_call x g known = good_is _ _ _ _ (rules.of_call x known) (finding.of_call x known) (g purposes.Value known)
 
-pub good_operation : (x : Operation) → GoodOperation x → GoodExpr (exprs.Operation x)
+good_operation : (x : Operation) → GoodOperation x → GoodExpr (exprs.Operation x)
 good_operation x g known =
     let h = g known in
     good_is _ (record { type = Some types.Int; notes = operation_notes x known }) _ _ (rules.of_operation x known) (finding.of_operation x known) (record { count = h.count; clean = λ (c : Clean (operation_notes x known)). h.clean c })
 
-pub good_chain : (x : Chain) → GoodChain x → GoodExpr (exprs.Chain x)
+good_chain : (x : Chain) → GoodChain x → GoodExpr (exprs.Chain x)
 good_chain x g known = good_is _ _ _ _ (rules.of_chain x known) (finding.of_chain x known) (g known)
 
-pub good_negate : (x : Prefix) → GoodPrefix x → GoodExpr (exprs.Negate x)
+good_negate : (x : Prefix) → GoodPrefix x → GoodExpr (exprs.Negate x)
 good_negate x g known =
     let j = judged (out-Prefix x).operand known in
     let h = g known in
     good_is _ (record { type = negated_type j.type; notes = j.notes }) _ _ (rules.of_negate x known) (finding.of_negate x known)
     (record { count = h.count; clean = λ (c : Clean j.notes). let r = h.clean c in (negated_found j.type r.0, r.1) })
 
-pub good_not : (x : Prefix) → GoodPrefix x → GoodExpr (exprs.Not x)
+good_not : (x : Prefix) → GoodPrefix x → GoodExpr (exprs.Not x)
 good_not x g known =
     let j = judged (out-Prefix x).operand known in
     let h = g known in
@@ -152,11 +153,11 @@ good_not x g known =
 
 -- ---- each form of a field
 
-pub good_text : (x : Text) → GoodField (fields.Text x)
+good_text : (x : Text) → GoodField (fields.Text x)
 good_text x verb known =
     holds_is (HasType (field_form (fields.Text x) known)) _ [] _ [] (rules.of_text x verb known) (finding.of_text x known) (λ (u : Unit {0}). subst HasType (sym (finding.text_form x known)) tt) (nothing [] refl)
 
-pub good_formal : (x : Formal) → GoodFormal x → GoodField (fields.Formal x)
+good_formal : (x : Formal) → GoodFormal x → GoodField (fields.Formal x)
 good_formal x g verb known =
     let target = (out-Formal x).target in
     let j = judged_place target accesses.Write known in
@@ -165,7 +166,7 @@ good_formal x g verb known =
     (λ (t : IsFound j.type). subst HasType (sym (finding.formal_form x known)) t)
     (beside (IsFound j.type) own j.notes (place_forms target known) (quiet_found (formal_faults verb) (out-Formal x).span.start) (λ (c : Clean own) (t : IsFound j.type). t) (g accesses.Write known))
 
-pub good_plain : (x : Expr) → GoodExpr x → GoodField (fields.Plain x)
+good_plain : (x : Expr) → GoodExpr x → GoodField (fields.Plain x)
 good_plain x g verb known =
     let j = judged x known in
     holds_is (HasType (field_form (fields.Plain x) known)) _ j.notes _ (expr_forms x known) (rules.of_plain x verb known) (finding.of_plain x known)
@@ -177,7 +178,7 @@ good_index : (index : Option ((x : Expr) × GoodExpr x)) (known : Known) → Sou
 good_index None known = nothing [] refl
 good_index (Some y) known = holds_is (Unit {0}) _ _ _ _ refl refl (λ (t : IsFound (judged y.0 known).type). tt) (y.1 known)
 
-pub place_good : (p : Place) (index : Option ((x : Expr) × GoodExpr x)) → option_map (λ y. y.0) index ≡ (out-Place p).index → GoodPlace p
+place_good : (p : Place) (index : Option ((x : Expr) × GoodExpr x)) → option_map (λ y. y.0) index ≡ (out-Place p).index → GoodPlace p
 place_good p index h access known =
     let P : Option Expr → Type 0 = λ i. Sound (index_notes (option_map (λ e. judged e known) i)) (maybe_forms i known) in
     let i = option_map (λ e. judged e known) (out-Place p).index in
@@ -194,7 +195,7 @@ good_arguments (y ∷ ys) known =
     both (Unit {0}) (judged y.0 known).notes (notes_of (all_judged known (map judged (map (λ z. z.0) ys)))) (expr_forms y.0 known) (each expr_forms (map (λ z. z.0) ys) known)
     (λ (t : IsFound (judged y.0 known).type) (u : Unit {0}). tt) (y.1 known) (good_arguments ys known)
 
-pub call_good : (x : Call) (ys : List ((e : Expr) × GoodExpr e)) → map (λ y. y.0) ys ≡ (out-Call x).arguments → GoodCall x
+call_good : (x : Call) (ys : List ((e : Expr) × GoodExpr e)) → map (λ y. y.0) ys ≡ (out-Call x).arguments → GoodCall x
 call_good x ys h purpose known =
     let P : List Expr → Type 0 = λ es. Sound (notes_of (all_judged known (map judged es))) (each expr_forms es known) in
     let Q : Judged → Type 0 = λ k. Gives purpose k.type in
@@ -219,7 +220,7 @@ own_length : (fs : List Field) (verb : Verb) (known : Known) → length (all_not
 own_length [] verb known = refl
 own_length (f ∷ fs) verb known = ap suc (own_length fs verb known)
 
-pub operation_good : (o : Operation) (ys : List ((x : Field) × GoodField x)) → map (λ y. y.0) ys ≡ (out-Operation o).fields → GoodOperation o
+operation_good : (o : Operation) (ys : List ((x : Field) × GoodField x)) → map (λ y. y.0) ys ≡ (out-Operation o).fields → GoodOperation o
 operation_good o ys h known =
     let verb = (out-Operation o).verb in
     let fs = (out-Operation o).fields in
@@ -251,9 +252,26 @@ good_links (y ∷ ys) known a fa g =
     (ap (λ z. fa ++ (z ++ more)) (finding.link_is y.0 known) ∙ sym (append_assoc fa (expr_forms x known) more))
     (good_links ys known next (fa ++ expr_forms x known) step)
 
-pub chain_good : (h : Chain) → GoodExpr (out-Chain h).first → (ys : List ((x : Link) × GoodLink x)) → map (λ y. y.0) ys ≡ (out-Chain h).others → GoodChain h
+chain_good : (h : Chain) → GoodExpr (out-Chain h).first → (ys : List ((x : Link) × GoodLink x)) → map (λ y. y.0) ys ≡ (out-Chain h).others → GoodChain h
 chain_good h g ys e known =
     let first = (out-Chain h).first in
     let a = judged first known in
     let P : List Link → Type 0 = λ ls. Holds (IsFound (chained known a (map judged_operand ls)).type) (chained known a (map judged_operand ls)).notes (expr_forms first known ++ each link_forms ls known) in
     good_is _ _ _ _ (rules.chain_is h known) (finding.chain_is h known) (subst P e (good_links ys known a (expr_forms first known) (g known)))
+
+-- ---- every expression
+
+goods : ExprGoods GoodExpr GoodField GoodCall GoodChain GoodOperation GoodPlace
+goods = record { literal = good_literal; named = good_place; called = good_call; operating = good_operation; chained = good_chain; negated = good_negate; denied = good_not; text = good_text; formal = good_formal; plain = good_plain; place = place_good; call = call_good; operation = operation_good; chain = chain_good }
+
+pub every_expr : (x : Expr) → GoodExpr x
+every_expr = inductive_expr goods
+
+pub every_place : (x : Place) → GoodPlace x
+every_place = inductive_place goods
+
+pub every_call : (x : Call) → GoodCall x
+every_call = inductive_call goods
+
+pub every_operation : (x : Operation) → GoodOperation x
+every_operation = inductive_operation goods

@@ -26,18 +26,23 @@ behind_all behind (x ∷ xs) known = behind_all behind xs (behind x known)
 abbrev pub alone_forms : Stmt → Finds
 alone_forms x known = stmt_forms x (enter known)
 
+-- what is found in a statement that may be left out, in a scope of its own
 abbrev pub maybe_stmt_forms : Option Stmt → Finds
 maybe_stmt_forms None known = []
 maybe_stmt_forms (Some x) known = alone_forms x known
 
+-- what is found in an `if`: in its condition, then in its branches, each in a scope of its own
 abbrev pub if_parts : If → Finds
 if_parts x known = expr_forms (out-If x).test known ++ (alone_forms (out-If x).yes known ++ maybe_stmt_forms (out-If x).no known)
 
+-- what is found in a `while`: in its condition, then in its body, in a scope of its own
 abbrev pub while_parts : While → Finds
 while_parts x known = expr_forms (out-While x).test known ++ alone_forms (out-While x).body known
 
+-- what is found in a `do`: in its body, in a scope of its own, then in its condition
 abbrev pub do_parts : Do → Finds
 do_parts x known = alone_forms (out-Do x).body known ++ expr_forms (out-Do x).test known
 
+-- what is found in a `for`: in its head from left to right, then in its body, in a scope of its own
 abbrev pub for_parts : For → Finds
 for_parts x known = maybe_stmt_forms (out-For x).first known ++ (maybe_forms (out-For x).test known ++ (maybe_stmt_forms (out-For x).step known ++ alone_forms (out-For x).body known))

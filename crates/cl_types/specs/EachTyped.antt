@@ -2,6 +2,7 @@
 use Rattle.std.specs.Prelude.{◌≤◌, length, Option, Some, None}
 use Rattle.std.specs.List.{AllByRecursion}
 use Rattle.cl_types.specs.Findings.{Finding, Text, Constant, Formal, Actual, Forms, Told}
+use Rattle.cl_ground.specs.declared.limits.TheConstants.{MOST_FIELDS}
 
 abbrev pub IsFound : {A : Type 0} → Option A → Type 0
 IsFound None = ⊥
@@ -20,4 +21,4 @@ EachTyped fs = AllByRecursion (λ x. AllByRecursion HasType x.1) fs
 
 -- each operation has at most 16 fields
 abbrev pub EachNarrow : Told → Type 0
-EachNarrow fs = AllByRecursion (λ x. length x.1 ≤ 16) fs
+EachNarrow fs = AllByRecursion (λ x. length x.1 ≤ MOST_FIELDS) fs

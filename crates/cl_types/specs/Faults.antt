@@ -4,6 +4,7 @@ use Rattle.cl_types.specs.declared.fault.TypeKind.{TypeKind}
 use Rattle.cl_types.specs.declared.fault.TypeKind.TheVariants as kinds
 use Rattle.cl_types.specs.declared.fault.Fault.{Fault}
 
+-- the order of kinds of faults at one place, the least first
 abbrev pub rank : TypeKind → ℕ
 rank kinds.NoMain = 0
 rank kinds.UnknownName = 1
@@ -30,6 +31,7 @@ abbrev pub in_order : List Fault → List Fault
 in_order [] = []
 in_order (f ∷ fs) = put f (in_order fs)
 
+-- the first fault, where there is one
 abbrev pub first : List Fault → Option Fault
 first [] = None
 first (f ∷ fs) = Some f
@@ -39,6 +41,7 @@ abbrev pub rises_from : Fault → List Fault → Bool
 rises_from f [] = true
 rises_from f (g ∷ gs) = comes_before f g && rises_from g gs
 
+-- whether faults are in order, each once
 abbrev pub rises : List Fault → Bool
 rises [] = true
 rises (f ∷ fs) = rises_from f fs

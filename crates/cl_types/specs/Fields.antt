@@ -57,10 +57,12 @@ abbrev pub or_none : {A : Type 0} → Option (A × Finds) → Finds
 or_none None known = []
 or_none (Some x) known = x.1 known
 
+-- the parts alone, without what is found in them
 abbrev pub parts_of : {A : Type 0} → List (A × Finds) → List A
 parts_of [] = []
 parts_of (x ∷ xs) = x.0 ∷ parts_of xs
 
+-- what is found in an expression: in its part, and in a literal nothing
 abbrev pub in_expr : Expr-F (Expr × Finds) (Field × Finds) (Call × Finds) (Chain × Finds) (Formal × Finds) (Link × Finds) (Operation × Finds) (Place × Finds) (Prefix × Finds) → Finds
 in_expr (Expr-F.Literal l) known = []
 in_expr (Expr-F.Place x) known = x.1 known
@@ -70,14 +72,17 @@ in_expr (Expr-F.Chain x) known = x.1 known
 in_expr (Expr-F.Negate x) known = x.1 known
 in_expr (Expr-F.Not x) known = x.1 known
 
+-- what is found in a field: in its part, and in a string nothing
 abbrev pub in_field : Field-F (Expr × Finds) (Field × Finds) (Call × Finds) (Chain × Finds) (Formal × Finds) (Link × Finds) (Operation × Finds) (Place × Finds) (Prefix × Finds) → Finds
 in_field (Field-F.Text text) known = []
 in_field (Field-F.Formal x) known = x.1 known
 in_field (Field-F.Plain x) known = x.1 known
 
+-- what is found in a call: in its arguments, in order
 abbrev pub in_call : Call-F (Expr × Finds) (Field × Finds) (Call × Finds) (Chain × Finds) (Formal × Finds) (Link × Finds) (Operation × Finds) (Place × Finds) (Prefix × Finds) → Finds
 in_call call known = joined call.arguments known
 
+-- what is found in a chain: in its first operand, then in the others
 abbrev pub in_chain : Chain-F (Expr × Finds) (Field × Finds) (Call × Finds) (Chain × Finds) (Formal × Finds) (Link × Finds) (Operation × Finds) (Place × Finds) (Prefix × Finds) → Finds
 in_chain chain known = chain.first.1 known ++ joined chain.others known
 
@@ -95,6 +100,7 @@ itself operation = roll-Operation (record { verb = operation.verb; fields = part
 abbrev pub in_operation : Operation-F (Expr × Finds) (Field × Finds) (Call × Finds) (Chain × Finds) (Formal × Finds) (Link × Finds) (Operation × Finds) (Place × Finds) (Prefix × Finds) → Finds
 in_operation operation known = (itself operation, own_forms (parts_of operation.fields) known) ∷ joined operation.fields known
 
+-- what is found in a place: in its index, where there is one
 abbrev pub in_place : Place-F (Expr × Finds) (Field × Finds) (Call × Finds) (Chain × Finds) (Formal × Finds) (Link × Finds) (Operation × Finds) (Place × Finds) (Prefix × Finds) → Finds
 in_place place known = or_none place.index known
 
@@ -103,21 +109,27 @@ in_prefix prefix known = prefix.operand.1 known
 
 -- ---- whole trees
 
+-- the operations in an expression, each with what is found of its fields
 unfoldable pub expr_forms : Expr → Finds
 expr_forms = e.para-Expr Finds Finds Finds Finds Finds Finds Finds Finds Finds in_expr in_field in_call in_chain in_formal in_link in_operation in_place in_prefix
 
+-- the operations in the index of a place
 unfoldable pub place_forms : Place → Finds
 place_forms = e.para-Place Finds Finds Finds Finds Finds Finds Finds Finds Finds in_expr in_field in_call in_chain in_formal in_link in_operation in_place in_prefix
 
+-- the operations in the arguments of a call
 unfoldable pub call_forms : Call → Finds
 call_forms = e.para-Call Finds Finds Finds Finds Finds Finds Finds Finds Finds in_expr in_field in_call in_chain in_formal in_link in_operation in_place in_prefix
 
+-- an operation, and the operations in its fields
 unfoldable pub operation_forms : Operation → Finds
 operation_forms = e.para-Operation Finds Finds Finds Finds Finds Finds Finds Finds Finds in_expr in_field in_call in_chain in_formal in_link in_operation in_place in_prefix
 
+-- the operations inside a field, each with what is found of its own fields
 unfoldable pub inner_forms : Field → Finds
 inner_forms = e.para-Field Finds Finds Finds Finds Finds Finds Finds Finds Finds in_expr in_field in_call in_chain in_formal in_link in_operation in_place in_prefix
 
+-- the operations in the operands of a chain
 unfoldable pub chain_forms : Chain → Finds
 chain_forms = e.para-Chain Finds Finds Finds Finds Finds Finds Finds Finds Finds in_expr in_field in_call in_chain in_formal in_link in_operation in_place in_prefix
 

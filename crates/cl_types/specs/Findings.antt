@@ -24,20 +24,24 @@ Forms = List (Operation × List Finding)
 abbrev pub Told : Type 0
 Told = List (Operation × List FieldForm)
 
+-- the type that is told: `int` where none is found
 abbrev pub found_type : Option TypeName → TypeName
 found_type None = types.Int
 found_type (Some t) = t
 
+-- what is told of a field, by what is found of it
 abbrev pub tell : Finding → FieldForm
 tell Text = forms.Text
 tell (Constant n) = forms.Constant n
 tell (Formal t) = forms.Formal (found_type t)
 tell (Actual t) = forms.Actual (found_type t)
 
+-- what is told of the fields of one operation, in order
 abbrev pub tell_own : List Finding → List FieldForm
 tell_own [] = []
 tell_own (x ∷ xs) = tell x ∷ tell_own xs
 
+-- what is told of operations, by what is found of their fields
 abbrev pub told : Forms → Told
 told [] = []
 told (x ∷ xs) = (x.0, tell_own x.1) ∷ told xs
@@ -50,5 +54,6 @@ adds before fs = before ++ told fs
 abbrev pub seen_site : Site → Operation × List FieldForm
 seen_site s = (s.operation.now, s.forms)
 
+-- all operations that are kept, each with the forms of its fields
 abbrev pub seen : List Site → Told
 seen sites = map seen_site sites

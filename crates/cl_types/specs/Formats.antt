@@ -12,6 +12,7 @@ use Rattle.cl_types.specs.declared.format.Step.{Step}
 abbrev pub goes_on : Stage → Option Step
 goes_on stage = Some (record { stage = stage; directive = None })
 
+-- a directive ends with the byte, and text stands behind it
 abbrev pub ends : Directive → Option Step
 ends d = Some (record { stage = stages.Text; directive = Some d })
 
@@ -24,6 +25,7 @@ step_of stages.Percent byte =
     else (if byte == 99 then ends directives.Character else (if byte == 108 then goes_on stages.Long else (if byte == 37 then goes_on stages.Text else None)))
 step_of stages.Long byte = if byte == 100 then ends directives.LongDecimal else None
 
+-- a directive that may have ended, as a list
 abbrev pub listed : Option Directive → List Directive
 listed None = []
 listed (Some d) = d ∷ []

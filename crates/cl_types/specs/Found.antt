@@ -37,6 +37,7 @@ onward found behind (x ∷ xs) known = found x known ++ onward found behind xs (
 
 -- ---- parts of statements
 
+-- what is found in the right side of a change; `++` and `--` have none
 abbrev pub change_forms : Change → Finds
 change_forms (changes.Set x) known = expr_forms x known
 change_forms (changes.Add x) known = expr_forms x known
@@ -49,6 +50,7 @@ change_forms changes.Decrement known = []
 abbrev pub assign_forms : Assign → Finds
 assign_forms a known = place_forms a.place known ++ change_forms a.change known
 
+-- what is found in the initial value of a variable, where it has one
 abbrev pub initial_forms : Form → Finds
 initial_forms given.Bare known = []
 initial_forms (given.Array size) known = []
@@ -58,6 +60,7 @@ initial_forms (given.Value x) known = expr_forms x.expr known
 abbrev pub variable_behind : TypeName → Declarator → Known → Known
 variable_behind t d known = (declarator_walked reaches.Local t d known).known
 
+-- what is found in a declarator: its initial value alone can have operations
 abbrev pub declarator_forms : Declarator → Finds
 declarator_forms d known = initial_forms d.form known
 
@@ -68,6 +71,7 @@ variables_forms v known = onward declarator_forms (variable_behind v.type_name) 
 abbrev pub spanned_forms : Spanned → Finds
 spanned_forms x known = expr_forms x.expr known
 
+-- what is found in the arguments of a `printf`, in order
 abbrev pub printed_forms : List Spanned → Finds
 printed_forms xs known = each spanned_forms xs known
 
@@ -95,6 +99,7 @@ abbrev pub maybe_alone : {A : Type 0} → Option (A × Finds) → Finds
 maybe_alone None known = []
 maybe_alone (Some x) known = alone x known
 
+-- what is found in a statement; a block has a scope of its own
 abbrev pub in_stmt : Stmt-F (Stmt × Finds) (Block × Finds) (Do × Finds) (For × Finds) (If × Finds) (While × Finds) → Finds
 in_stmt (Stmt-F.Block x) known = alone x known
 in_stmt (Stmt-F.Empty span) known = []
@@ -111,9 +116,11 @@ in_stmt (Stmt-F.Break span) known = []
 in_stmt (Stmt-F.Continue span) known = []
 in_stmt (Stmt-F.Return r) known = maybe_forms r.value known
 
+-- what is found in the statements of a block, each where what was declared before it is known
 abbrev pub in_block : Block-F (Stmt × Finds) (Block × Finds) (Do × Finds) (For × Finds) (If × Finds) (While × Finds) → Finds
 in_block b known = onward found_in statement_behind b.statements known
 
+-- what is found in a `do`: in its body, in a scope of its own, then in its condition
 abbrev pub in_do : Do-F (Stmt × Finds) (Block × Finds) (Do × Finds) (For × Finds) (If × Finds) (While × Finds) → Finds
 in_do d known = alone d.body known ++ expr_forms d.test known
 
@@ -121,17 +128,21 @@ in_do d known = alone d.body known ++ expr_forms d.test known
 abbrev pub in_for : For-F (Stmt × Finds) (Block × Finds) (Do × Finds) (For × Finds) (If × Finds) (While × Finds) → Finds
 in_for f known = maybe_alone f.first known ++ (maybe_forms f.test known ++ (maybe_alone f.step known ++ alone f.body known))
 
+-- what is found in an `if`: in its condition, then in its branches, each in a scope of its own
 abbrev pub in_if : If-F (Stmt × Finds) (Block × Finds) (Do × Finds) (For × Finds) (If × Finds) (While × Finds) → Finds
 in_if x known = expr_forms x.test known ++ (alone x.yes known ++ maybe_alone x.no known)
 
+-- what is found in a `while`: in its condition, then in its body, in a scope of its own
 abbrev pub in_while : While-F (Stmt × Finds) (Block × Finds) (Do × Finds) (For × Finds) (If × Finds) (While × Finds) → Finds
 in_while w known = expr_forms w.test known ++ alone w.body known
 
 -- ---- whole trees
 
+-- the operations in a statement, each with what is found of its fields
 unfoldable pub stmt_forms : Stmt → Finds
 stmt_forms = s.para-Stmt Finds Finds Finds Finds Finds Finds in_stmt in_block in_do in_for in_if in_while
 
+-- the operations in the statements of a block, in the scope that is there
 unfoldable pub block_forms : Block → Finds
 block_forms = s.para-Block Finds Finds Finds Finds Finds Finds in_stmt in_block in_do in_for in_if in_while
 
@@ -153,11 +164,13 @@ while_forms = s.para-While Finds Finds Finds Finds Finds Finds in_stmt in_block 
 abbrev pub function_forms : Function → Finds
 function_forms f known = block_forms f.body (parameters_walked f.parameters (enter (function_known f known))).known
 
+-- what is found in an item; a definition has no operations
 abbrev pub item_forms : Item → Finds
 item_forms (items.Define d) known = []
 item_forms (items.Variables v) known = variables_forms v known
 item_forms (items.Function f) known = function_forms f known
 
+-- what is known behind an item
 abbrev pub item_behind : Item → Known → Known
 item_behind x known = (item_walked x known).known
 

@@ -16,6 +16,7 @@ use Rattle.cl_types.specs.Notes as notes
 use Rattle.cl_types.specs.Declarations.{Declaration, Known, same_name, declaration_in, declare, declared_again, enter}
 use Rattle.cl_types.specs.Statements.{Part, behind, in_order, variables_walked, block_walked}
 
+-- the types of parameters, in order
 abbrev pub parameter_types : List Parameter → List TypeName
 parameter_types [] = []
 parameter_types (p ∷ ps) = p.type_name ∷ parameter_types ps
@@ -27,18 +28,21 @@ function_type f = record { result = f.result; parameters = parameter_types f.par
 abbrev pub define_number : Define → Number
 define_number d = record { is_negative = d.is_negative; literal = d.literal.value }
 
+-- a definition: its name is a constant behind it; one that its scope has already is a fault
 abbrev pub define_walked : Define → Part
 define_walked d known = record {
   known = declare d.name.bytes (declareds.Constant (define_number d)) known;
   notes = declared_again d.name known;
 }
 
+-- a parameter: its name is a variable behind it; one that its scope has already is a fault
 abbrev pub parameter_walked : Parameter → Part
 parameter_walked p known = record {
   known = declare p.name.bytes (declareds.Scalar p.type_name) known;
   notes = declared_again p.name known;
 }
 
+-- the parameters of a function, each known to the next
 abbrev pub parameters_walked : List Parameter → Part
 parameters_walked ps = in_order (map parameter_walked ps)
 
@@ -50,20 +54,24 @@ function_context f = record { result = f.result; is_in_loop = false }
 abbrev pub body_walked : Function → Part
 body_walked f known = behind (parameters_walked f.parameters known) (block_walked f.body (function_context f))
 
+-- what is known with a function, whose name changes nothing where its scope has it already
 abbrev pub function_known : Function → Known → Known
 function_known f known = declare f.name.bytes (declareds.Function (function_type f)) known
 
+-- a function is noted at its name, and is known in its own statements and behind them
 abbrev pub function_walked : Function → Part
 function_walked f known = record {
   known = function_known f known;
   notes = notes.Function f.name.span.start ∷ (declared_again f.name known ++ (body_walked f (enter (function_known f known))).notes);
 }
 
+-- what is noted of an item, and what is known behind it
 abbrev pub item_walked : Item → Part
 item_walked (items.Define d) known = define_walked d known
 item_walked (items.Variables v) known = variables_walked reaches.Global v known
 item_walked (items.Function f) known = function_walked f known
 
+-- the items of a text, each where what was declared before it is known
 abbrev pub items_walked : List Item → Part
 items_walked xs = in_order (map item_walked xs)
 
@@ -104,9 +112,11 @@ abbrev pub is_empty : {A : Type 0} → List A → Bool
 is_empty [] = true
 is_empty (x ∷ xs) = false
 
+-- whether a program can begin at the function: it is `real_main`, and takes nothing
 abbrev pub is_main : Function → Bool
 is_main f = if same_name f.name.bytes main_name then is_empty f.parameters else false
 
+-- whether a text has a function at which a program can begin
 abbrev pub has_main : List Item → Bool
 has_main [] = false
 has_main (items.Function f ∷ xs) = if is_main f then true else has_main xs

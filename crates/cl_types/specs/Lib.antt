@@ -6,7 +6,6 @@ pub mod Expressions
 pub mod Faults
 pub mod Fields
 pub mod Findings
-pub mod Folds
 pub mod Formats
 pub mod Found
 pub mod Gathered

@@ -3,6 +3,7 @@ use Rattle.std.specs.Prelude.{ℕ, ◌+◌, ◌==◌, List, [], ◌∷◌, if◌
 use Rattle.cl_types.specs.declared.fault.TypeKind.{TypeKind}
 use Rattle.cl_types.specs.declared.fault.TypeKind.TheVariants as kinds
 use Rattle.cl_types.specs.declared.fault.Fault.{Fault}
+use Rattle.cl_ground.specs.declared.limits.TheConstants.{MOST_FUNCTIONS, MOST_SITES}
 
 pub data Note : Type 0 where
   -- a fault
@@ -12,6 +13,7 @@ pub data Note : Type 0 where
   -- a function, at its name
   Function : (place : ℕ) → Note
 
+-- a fault of this kind at a place, as a note
 abbrev pub found : TypeKind → ℕ → Note
 found kind place = Found (record { place = place; kind = kind })
 
@@ -26,8 +28,8 @@ abbrev pub faults_among : ℕ → ℕ → List Note → List Fault
 faults_among sites functions [] = []
 faults_among sites functions (Found fault ∷ notes) = fault ∷ faults_among sites functions notes
 faults_among sites functions (Site place ∷ notes) =
-    if sites == 1024 then record { place = place; kind = kinds.TooManySites } ∷ faults_among (sites + 1) functions notes
+    if sites == MOST_SITES then record { place = place; kind = kinds.TooManySites } ∷ faults_among (sites + 1) functions notes
     else faults_among (sites + 1) functions notes
 faults_among sites functions (Function place ∷ notes) =
-    if functions == 512 then record { place = place; kind = kinds.TooManyFunctions } ∷ faults_among sites (functions + 1) notes
+    if functions == MOST_FUNCTIONS then record { place = place; kind = kinds.TooManyFunctions } ∷ faults_among sites (functions + 1) notes
     else faults_among sites (functions + 1) notes

@@ -6,7 +6,9 @@ use Rattle.cl_ast.specs.declared.tree.Constant.{Constant}
 use Rattle.cl_ast.specs.declared.tree.Constant.TheVariants as constants
 use Rattle.cl_types.specs.declared.declared.Number.{Number}
 use Rattle.cl_types.specs.Types.{literal_type}
+use Rattle.cl_ground.specs.declared.limits.TheConstants.{MOST_SIZE}
 
+-- the number that a literal stands for; a character stands for its byte
 abbrev pub literal_value : Constant → ℤ
 literal_value (constants.Int value) = value
 literal_value (constants.Long value) = value
@@ -32,7 +34,7 @@ is_between low high v = not (int_lt v low) && not (int_lt high v)
 
 -- an array has 1 to 65,536 elements
 abbrev pub is_size : Number → Bool
-is_size n = is_between (pos 1) (pos 65536) (number_value n)
+is_size n = is_between (pos 1) (pos MOST_SIZE) (number_value n)
 
 -- a variable of this type can have it as its initial value; a `char` takes each value modulo 256
 abbrev pub fits_type : TypeName → Number → Bool

@@ -5,7 +5,7 @@ use Rattle.cl_ast.specs.declared.tree.TypeName.{TypeName}
 use Rattle.cl_ast.specs.declared.tree.Expr.{Expr}
 use Rattle.cl_ast.specs.declared.tree.Spanned.{Spanned}
 use Rattle.cl_ast.specs.declared.statement.Stmt.{Stmt}
-use Rattle.cl_ast.specs.declared.statement.Stmt.TheOpen.{Stmt-F, Block-F, If-F, While-F, Do-F, For-F}
+use Rattle.cl_ast.specs.declared.statement.Stmt.TheOpen.{Stmt-F}
 use Rattle.cl_ast.specs.declared.statement.Block.{Block}
 use Rattle.cl_ast.specs.declared.statement.Variables.{Variables}
 use Rattle.cl_ast.specs.declared.statement.Declarator.{Declarator}
@@ -34,7 +34,7 @@ use Rattle.cl_types.specs.Numbers.{plain_number, is_size, fits_type}
 use Rattle.cl_types.specs.Declarations.{Known, look_up, declare, declared_again, enter}
 use Rattle.cl_types.specs.Expressions.{judged, judged_place, judged_call, operation_notes, constant_of, count_faults}
 use Rattle.cl_types.specs.Formats.{directives_of, takes}
-use Rattle.cl_types.specs.Folds.{fold_stmt, fold_block}
+use Rattle.cl_ast.specs.Folds.{StmtSteps, fold_stmt, fold_block}
 
 -- what is noted on the way, and what is known then
 pub record Walked : Type 0 where
@@ -64,11 +64,13 @@ in_order (part ∷ parts) known = behind (part known) (in_order parts)
 abbrev pub size_kind : Number → List TypeKind
 size_kind n = if is_size n then [] else kinds.WrongType ∷ []
 
+-- what is wrong with a name as a size: it is unknown, no constant, or one that is no size
 abbrev pub size_faults : Option Declared → List TypeKind
 size_faults None = kinds.UnknownName ∷ []
 size_faults (Some (declareds.Constant n)) = size_kind n
 size_faults (Some what) = kinds.WrongType ∷ []
 
+-- what is noted of the size of an array, a literal or a name
 abbrev pub size_notes : Known → Size → List Note
 size_notes known (sizes.Number literal) = found_all (size_kind (plain_number literal.value)) literal.span.start
 size_notes known (sizes.Name name) = found_all (size_faults (look_up name.bytes known)) name.span.start
@@ -84,10 +86,12 @@ initial_faults reaches.Local t found constant = []
 initial_faults reaches.Global t None constant = []
 initial_faults reaches.Global t (Some u) constant = constant_faults t constant
 
+-- what is noted of an initial value: in it, and whether a global of this type can have it
 abbrev pub initial_notes : Reach → TypeName → Known → Spanned → List Note
 initial_notes reach t known x =
     (judged x.expr known).notes ++ found_all (initial_faults reach t (judged x.expr known).type (constant_of x.expr known)) x.span.start
 
+-- what is noted of what stands behind the name of a variable
 abbrev pub form_notes : Reach → TypeName → Known → Form → List Note
 form_notes reach t known forms.Bare = []
 form_notes reach t known (forms.Array size) = size_notes known size
@@ -106,11 +110,13 @@ declarator_walked reach t d known = record {
   notes = declared_again d.name known ++ form_notes reach t known d.form;
 }
 
+-- the variables of a declaration, each known to the next
 abbrev pub variables_walked : Reach → Variables → Part
 variables_walked reach v = in_order (map (declarator_walked reach v.type_name) v.declarators)
 
 -- ---- changes and prints
 
+-- what is noted of the right side of a change; `++` and `--` have none
 abbrev pub change_notes : Known → Change → List Note
 change_notes known (changes.Set e) = (judged e known).notes
 change_notes known (changes.Add e) = (judged e known).notes
@@ -119,9 +125,11 @@ change_notes known (changes.Multiply e) = (judged e known).notes
 change_notes known changes.Increment = []
 change_notes known changes.Decrement = []
 
+-- what is noted of a place that is written, and of its change
 abbrev pub assign_notes : Known → Assign → List Note
 assign_notes known x = (judged_place x.place accesses.Write known).notes ++ change_notes known x.change
 
+-- what is wrong with an argument: its directive doesn't take its type
 abbrev pub argument_faults : Directive → Option TypeName → List TypeKind
 argument_faults d None = []
 argument_faults d (Some t) = if takes d t then [] else kinds.WrongType ∷ []
@@ -131,6 +139,7 @@ abbrev pub argument_notes : Known → Option Directive → Spanned → List Note
 argument_notes known None x = (judged x.expr known).notes
 argument_notes known (Some d) x = (judged x.expr known).notes ++ found_all (argument_faults d (judged x.expr known).type) x.span.start
 
+-- what is noted of arguments, each with the next directive while there are any
 abbrev pub arguments_notes : Known → List Directive → List Spanned → List Note
 arguments_notes known ds [] = []
 arguments_notes known [] (x ∷ xs) = argument_notes known None x ++ arguments_notes known [] xs
@@ -141,14 +150,17 @@ abbrev pub print_parts : Known → Option (List Directive) → Print → List No
 print_parts known None x = found kinds.BadFormat x.format.span.start ∷ arguments_notes known [] x.arguments
 print_parts known (Some ds) x = found_all (count_faults (length ds) (length x.arguments)) x.span.start ++ arguments_notes known ds x.arguments
 
+-- what is noted of a `printf`, by the directives of its format
 abbrev pub print_notes : Known → Print → List Note
 print_notes known x = print_parts known (directives_of x.format.bytes) x
 
 -- ---- ways out
 
+-- what is noted of a `break` or a `continue`: a fault outside of all loops
 abbrev pub leave_notes : Context → ℕ → List Note
 leave_notes context place = if context.is_in_loop then [] else found kinds.NoLoop place ∷ []
 
+-- what is wrong with a value that is returned: the function gives none
 abbrev pub value_return_faults : Option TypeName → List TypeKind
 value_return_faults None = kinds.WrongType ∷ []
 value_return_faults (Some t) = []
@@ -157,6 +169,7 @@ abbrev pub value_notes : Context → ℕ → Known → Option Expr → List Note
 value_notes context place known None = []
 value_notes context place known (Some e) = found_all (value_return_faults context.result) place ++ (judged e known).notes
 
+-- what is noted of a `return`; one without a value is right in each function
 abbrev pub return_notes : Context → Known → Return → List Note
 return_notes context known x = value_notes context x.span.start known x.value
 
@@ -173,16 +186,19 @@ scoped part context known = stays known (part context (enter known)).notes
 abbrev pub in_context : Context → Walks → Part
 in_context context walks = walks context
 
+-- the same surroundings, with a loop round the statement
 abbrev pub in_loop : Context → Context
 in_loop context = record context { is_in_loop = true }
 
 abbrev pub scoped_notes : Walks → Context → Known → List Note
 scoped_notes part context known = (scoped part context known).notes
 
+-- what is noted of a statement that may be left out, in a scope of its own
 abbrev pub maybe_notes : Option Walks → Context → Known → List Note
 maybe_notes None context known = []
 maybe_notes (Some part) context known = scoped_notes part context known
 
+-- what is noted of a condition that may be left out
 abbrev pub test_notes : Option Expr → Known → List Note
 test_notes None known = []
 test_notes (Some e) known = (judged e known).notes
@@ -203,27 +219,21 @@ stmt_rule (Stmt-F.Break span) context known = stays known (leave_notes context s
 stmt_rule (Stmt-F.Continue span) context known = stays known (leave_notes context span.start)
 stmt_rule (Stmt-F.Return x) context known = stays known (return_notes context known x)
 
--- the statements of a block, in the scope that is there
-abbrev pub block_rule : Block-F Walks Walks Walks Walks Walks Walks → Walks
-block_rule block context = in_order (map (in_context context) block.statements)
-
-abbrev pub if_rule : If-F Walks Walks Walks Walks Walks Walks → Walks
-if_rule x context known = stays known ((judged x.test known).notes ++ (scoped_notes x.yes context known ++ maybe_notes x.no context known))
-
-abbrev pub while_rule : While-F Walks Walks Walks Walks Walks Walks → Walks
-while_rule x context known = stays known ((judged x.test known).notes ++ scoped_notes x.body (in_loop context) known)
-
-abbrev pub do_rule : Do-F Walks Walks Walks Walks Walks Walks → Walks
-do_rule x context known = stays known (scoped_notes x.body (in_loop context) known ++ (judged x.test known).notes)
-
-abbrev pub for_rule : For-F Walks Walks Walks Walks Walks Walks → Walks
-for_rule x context known =
-    stays known (maybe_notes x.first context known ++ (test_notes x.test known ++ (maybe_notes x.step context known ++ scoped_notes x.body (in_loop context) known)))
+-- of each part of a statement: the statements of a block stand in the scope that is there
+abbrev pub stmt_rules : StmtSteps Walks Walks Walks Walks Walks Walks
+stmt_rules = record {
+  stmt = stmt_rule;
+  block = λ block. λ context. in_order (map (in_context context) block.statements);
+  do_loop = λ x. λ context. λ known. stays known (scoped_notes x.body (in_loop context) known ++ (judged x.test known).notes);
+  for_loop = λ x. λ context. λ known. stays known (maybe_notes x.first context known ++ (test_notes x.test known ++ (maybe_notes x.step context known ++ scoped_notes x.body (in_loop context) known)));
+  choice = λ x. λ context. λ known. stays known ((judged x.test known).notes ++ (scoped_notes x.yes context known ++ maybe_notes x.no context known));
+  while_loop = λ x. λ context. λ known. stays known ((judged x.test known).notes ++ scoped_notes x.body (in_loop context) known);
+}
 
 -- a statement, in this context, where this is known
 unfoldable pub walked : Stmt → Context → Known → Walked
-walked = fold_stmt Walks Walks Walks Walks Walks Walks stmt_rule block_rule do_rule for_rule if_rule while_rule
+walked = fold_stmt stmt_rules
 
 -- the statements of a block
 unfoldable pub block_walked : Block → Context → Known → Walked
-block_walked = fold_block Walks Walks Walks Walks Walks Walks stmt_rule block_rule do_rule for_rule if_rule while_rule
+block_walked = fold_block stmt_rules

@@ -20,6 +20,7 @@ function_of f = record { name = f.0.now; what = f.1 }
 abbrev pub left : ℕ → Known → Known
 left outer known = record known { here = take (length known.around - outer) known.around; around = drop (length known.around - outer) known.around }
 
+-- what stands behind the first, where there is one
 abbrev pub behind_first : {A : Type 0} → List A → List A
 behind_first [] = []
 behind_first (x ∷ xs) = xs

@@ -25,6 +25,7 @@ common types.Long b = types.Long
 common types.Int b = promoted b
 common types.Char b = promoted b
 
+-- whether an operator gives the common type of its operands: `+`, `-`, `*`, `/` or `%`
 abbrev pub is_arithmetic : Operator → Bool
 is_arithmetic operators.Add = true
 is_arithmetic operators.Subtract = true

@@ -11,6 +11,7 @@ use Rattle.cl_types.specs.Faults.{in_order}
 abbrev pub main_notes : List Item → List Note
 main_notes xs = if has_main xs then [] else found kinds.NoMain 0 ∷ []
 
+-- all that is noted of a text: whether a program can begin in it, then item by item
 abbrev pub unit_notes : List Item → List Note
 unit_notes xs = main_notes xs ++ (items_walked xs (known_first xs)).notes
 

@@ -7,6 +7,7 @@ ghost use Rattle.cl_types.specs.Expressions.{access_type, place_type, place_faul
 
 use crate::{Access, Declared, Journal, Purpose, TypeKind};
 use cl_ast::{Constant, Operator, TypeName, Verb};
+use cl_ground::MOST_FIELDS;
 
 /// The type of a literal.
 pub fn literal_type(literal: Constant) -> TypeName
@@ -44,19 +45,19 @@ fn is_arithmetic(operator: Operator) -> bool
     ensures { result ≡ is_arithmetic operator }
 {
     match operator {
-        Operator::Add
-        | Operator::Subtract
-        | Operator::Multiply
-        | Operator::Divide
-        | Operator::Remainder => true,
-        Operator::Or
-        | Operator::And
-        | Operator::Equal
-        | Operator::NotEqual
-        | Operator::Less
-        | Operator::LessEqual
-        | Operator::Greater
-        | Operator::GreaterEqual => false,
+        Operator::Or => false,
+        Operator::And => false,
+        Operator::Equal => false,
+        Operator::NotEqual => false,
+        Operator::Less => false,
+        Operator::LessEqual => false,
+        Operator::Greater => false,
+        Operator::GreaterEqual => false,
+        Operator::Add => true,
+        Operator::Subtract => true,
+        Operator::Multiply => true,
+        Operator::Divide => true,
+        Operator::Remainder => true,
     }
 }
 
@@ -177,14 +178,11 @@ pub fn report_call(
     }
 }
 
-/// An operation has at most so many fields.
-pub const MAX_FIELDS: usize = 16;
-
 /// Reports an operation with too many fields.
 pub fn report_width(count: usize, place: u32, journal: &mut Journal)
     ensures { journal.new ≡ noted_all (found_all (width_faults count) place) journal.old }
 {
-    if MAX_FIELDS < count {
+    if MOST_FIELDS < count {
         journal.report(TypeKind::WrongCount, place);
     }
 }

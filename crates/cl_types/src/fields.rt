@@ -3,8 +3,6 @@ mod form;
 mod item;
 mod site;
 mod statement;
-#[cfg(test)]
-mod tests;
 mod type_of;
 
 pub use form::FieldForm;

@@ -3,12 +3,7 @@ ghost use Rattle.cl_types.specs.Notes as notes;
 ghost use Rattle.cl_types.specs.Journals.{noted, earlier, earlier_at, counted, new_journal};
 
 use crate::{Fault, TypeKind};
-
-/// An operation after so many stands too late in a source.
-pub const MAX_SITES: u32 = 1024;
-
-/// A function after so many stands too late in a source.
-pub const MAX_FUNCTIONS: u32 = 512;
+use cl_ground::{MOST_FUNCTIONS, MOST_SITES};
 
 /// What a walk has found so far.
 #[derive(Clone, Copy, Debug, PartialEq, Eq)]
@@ -66,19 +61,19 @@ impl Journal {
     pub fn site(&mut self, place: u32)
         ensures { self.new ≡ noted (notes.Site place) self.old }
     {
-        if self.sites == MAX_SITES {
+        if self.sites == MOST_SITES {
             self.report(TypeKind::TooManySites, place);
         }
-        self.sites = counted(MAX_SITES, self.sites);
+        self.sites = counted(MOST_SITES, self.sites);
     }
 
     /// Notes a function, by the place of its name.
     pub fn function(&mut self, place: u32)
         ensures { self.new ≡ noted (notes.Function place) self.old }
     {
-        if self.functions == MAX_FUNCTIONS {
+        if self.functions == MOST_FUNCTIONS {
             self.report(TypeKind::TooManyFunctions, place);
         }
-        self.functions = counted(MAX_FUNCTIONS, self.functions);
+        self.functions = counted(MOST_FUNCTIONS, self.functions);
     }
 }

@@ -24,12 +24,7 @@ use context::{Access, Context, Purpose, Reach};
 pub use declared::Number;
 use declared::{Declared, FunctionType};
 use directive::Directive;
-pub use expression::MAX_FIELDS;
 pub use fault::{Fault, TypeKind};
 pub use fields::{FieldForm, Site};
 use journal::Journal;
-pub use journal::{MAX_FUNCTIONS, MAX_SITES};
 pub use public::{TypeEnd, Typed, check};
-
-#[cfg(test)]
-mod tests;

@@ -3,9 +3,7 @@ ghost use Rattle.cl_types.specs.Numbers.{is_size, fits_type};
 
 use crate::Number;
 use cl_ast::{Constant, TypeName};
-
-/// An array has at most so many elements.
-pub const MAX_SIZE: i64 = 65536;
+use cl_ground::MOST_SIZE;
 
 /// Whether the value of a number lies between these, both included.
 fn is_between(low: i64, high: i64, value: i64) -> bool
@@ -32,10 +30,11 @@ pub fn is_size(number: Number) -> bool
     ensures { result ≡ is_size number }
 {
     let value = literal_value(number.literal);
+    let most = i64::from(MOST_SIZE);
     if number.is_negative {
-        is_between(-MAX_SIZE, -1, value)
+        is_between(-most, -1, value)
     } else {
-        is_between(1, MAX_SIZE, value)
+        is_between(1, most, value)
     }
 }
 

@@ -60,6 +60,7 @@ impl Typed {
     ghost use Rattle.cl_types.specs.Found.{findings, sites_of};
     ghost use Rattle.cl_types.specs.Findings.{seen};
     ghost use Rattle.cl_types.specs.EachTyped.{EachTyped, EachNarrow};
+    ghost use Rattle.cl_ground.specs.declared.limits.TheConstants.{MOST_SITES};
 
     /// The tree. It takes no memory.
     pub fn unit(&self) -> &Unit
@@ -76,7 +77,7 @@ impl Typed {
         ensures sites { IfOk result (λ sites. seen sites ≡ sites_of self.now.items) }
         ensures typed { EachTyped (findings self.now.items) }
         ensures narrow { EachNarrow (sites_of self.now.items) }
-        ensures few { IfOk result (λ sites. length sites ≤ 1024) }
+        ensures few { IfOk result (λ sites. length sites ≤ MOST_SITES) }
     {
         sites(self.tree.items.as_slice(), alloc)
     }

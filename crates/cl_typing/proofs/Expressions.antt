@@ -69,7 +69,7 @@ use Rattle.cl_typing.proofs.Leading.{Paired, keeps_bind, keeps_then, keeps_more,
 use Rattle.cl_typing.proofs.Operating.{truth_is, literal_is, literal_number, operated_is, LooksAtBoth, negated_is}
 use Rattle.cl_typing.proofs.Operating as operating
 use Rattle.cl_typing.proofs.Places.{Accesses, may_access, accessed, variable_keeps, value_keeps, value_any, number_keeps, store_keeps, place_alone, place_indexed}
-use Rattle.cl_typing.proofs.Inductions as inductions
+use Rattle.cl_ast.proofs.Inductions.{ExprGoods, every_expr as inductive_expr, every_place as inductive_place, every_call as inductive_call, every_operation as inductive_operation}
 use Rattle.cl_typing.proofs.Calling.{GivesResult, CallsRight, Callable, may_call, callable_takes, call_gives, LiveSuits, live_keeps}
 
 pub all_split : {X : Type 0} (P : X → Type 0) (xs ys : List X) → AllByRecursion P (xs ++ ys) → AllByRecursion P xs × AllByRecursion P ys
@@ -574,14 +574,17 @@ module _ (R : PlainRequest → Type 0) (around : Surroundings) (functions : List
   -- ---- every expression
 
   module _ (calls_right : CallsRight R functions globals around.call) (live_is : (name : Name) (vs : List Value) → around.live_call name vs ≡ live_call functions name vs) where
+    goods : ExprGoods GoodExpr GoodField GoodCall GoodChain GoodOperation GoodPlace
+    goods = record { literal = literal_good; named = named_good; called = called_good calls_right live_is; operating = operating_good; chained = chained_good; negated = negate_good; denied = not_good; text = text_good; formal = formal_good; plain = plain_good; place = place_good; call = call_good; operation = operation_good; chain = chain_good }
+
     pub every_expr : (x : Expr) → GoodExpr x
-    every_expr = inductions.every_expr GoodExpr GoodField GoodCall GoodChain GoodOperation GoodPlace literal_good named_good (called_good calls_right live_is) operating_good chained_good negate_good not_good text_good formal_good plain_good place_good call_good operation_good chain_good
+    every_expr = inductive_expr goods
 
     pub every_place : (x : Place) → GoodPlace x
-    every_place = inductions.every_place GoodExpr GoodField GoodCall GoodChain GoodOperation GoodPlace literal_good named_good (called_good calls_right live_is) operating_good chained_good negate_good not_good text_good formal_good plain_good place_good call_good operation_good chain_good
+    every_place = inductive_place goods
 
     pub every_call : (x : Call) (c : Here) (purpose : Purpose) → Clean (judged_call x purpose c.known).notes → Allowed (call_forms x c.known) → Keeps R (Kept c) (IsOfFound (judged_call x purpose c.known).type) (call around x)
-    every_call x = call_keeps calls_right live_is x (inductions.every_call GoodExpr GoodField GoodCall GoodChain GoodOperation GoodPlace literal_good named_good (called_good calls_right live_is) operating_good chained_good negate_good not_good text_good formal_good plain_good place_good call_good operation_good chain_good x)
+    every_call x = call_keeps calls_right live_is x (inductive_call goods x)
 
     pub every_operation : (x : Operation) → GoodOperation x
-    every_operation = inductions.every_operation GoodExpr GoodField GoodCall GoodChain GoodOperation GoodPlace literal_good named_good (called_good calls_right live_is) operating_good chained_good negate_good not_good text_good formal_good plain_good place_good call_good operation_good chain_good
+    every_operation = inductive_operation goods

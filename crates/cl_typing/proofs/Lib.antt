@@ -4,13 +4,11 @@ pub mod Derived
 pub mod Expressions
 pub mod Found
 pub mod Functions
-pub mod Inductions
 pub mod Leading
 pub mod Operating
 pub mod Outside
 pub mod Places
 pub mod Process
-pub mod Recursions
 mod Rows
 pub mod Settled
 pub mod Statements

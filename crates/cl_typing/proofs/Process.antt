@@ -36,7 +36,7 @@ use Rattle.cl_types.specs.Findings.{Finding, Forms}
 use Rattle.cl_types.specs.Findings as findings_of
 use Rattle.cl_types.specs.Found.{known_behind, stmt_forms, findings}
 use Rattle.cl_types.specs.EachTyped.{IsFound}
-use Rattle.cl_types.proofs.Inductions.{every_expr as judged_well}
+use Rattle.cl_types.proofs.Welltyped.{every_expr as judged_well}
 use Rattle.cl_types.proofs.Clean.{Clean, clean_split, clean_unit}
 use Rattle.cl_typing.specs.Bodies.{are_settled}
 use Rattle.cl_typing.specs.Values.{IsOf, IsOfFound, IsFoundNumber, ValueIs}

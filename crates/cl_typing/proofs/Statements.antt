@@ -85,7 +85,7 @@ use Rattle.cl_typing.proofs.Expressions as typed
 use Rattle.cl_typing.proofs.Declaring.{not_again, declares_new, variable_seen, variable_fresh, inside_sees, entered_sees, entered_fresh}
 use Rattle.cl_typing.proofs.Settled as settled
 use Rattle.cl_typing.proofs.Settled.{both_true, alone_is}
-use Rattle.cl_typing.proofs.Recursions as recursions
+use Rattle.cl_ast.proofs.Inductions.{StmtGoods, every_stmt as inductive_stmt, every_block as inductive_block}
 
 -- what is known behind a statement is the same whatever stands round it
 pub same_known : (x : Stmt) (context : Context) (known : Known) → (walked x context known).known ≡ known_behind x known
@@ -539,8 +539,11 @@ module _ (R : PlainRequest → Type 0) (around : Surroundings) (functions : List
 
   -- ---- every statement
 
+  statement_goods : StmtGoods GoodStmt GoodBlock
+  statement_goods = record { block = block_good; empty = empty_good; variables = variables_good; assign = assign_good; call = call_good; operation = operation_good; print = print_good; break = break_good; continue = continue_good; return = return_good; choice = if_good; while_loop = while_good; do_loop = do_good; for_loop = for_good; statements = statements_good }
+
   pub every_stmt : (x : Stmt) → GoodStmt x
-  every_stmt = recursions.every_stmt GoodStmt GoodBlock block_good empty_good variables_good assign_good call_good operation_good print_good break_good continue_good return_good if_good while_good do_good for_good statements_good
+  every_stmt = inductive_stmt statement_goods
 
   pub every_block : (x : Block) → GoodBlock x
-  every_block = recursions.every_block GoodStmt GoodBlock block_good empty_good variables_good assign_good call_good operation_good print_good break_good continue_good return_good if_good while_good do_good for_good statements_good
+  every_block = inductive_block statement_goods

@@ -2,11 +2,11 @@
 -- room for them. (ISO/IEC 9899:1999, 6.8.)
 use Rattle.std.specs.Prelude.{Bool, true, false, not, ◌&&◌, List, [], ◌∷◌, Option, Some, None}
 use Rattle.cl_ast.specs.declared.statement.Stmt.{Stmt}
-use Rattle.cl_ast.specs.declared.statement.Stmt.TheOpen.{Stmt-F, Block-F, If-F, While-F, Do-F, For-F}
+use Rattle.cl_ast.specs.declared.statement.Stmt.TheOpen.{Stmt-F}
 use Rattle.cl_ast.specs.declared.statement.Block.{Block}
 use Rattle.cl_ast.specs.declared.statement.Item.{Item}
 use Rattle.cl_ast.specs.declared.statement.Item.TheVariants as items
-use Rattle.cl_types.specs.Folds.{fold_stmt, fold_block}
+use Rattle.cl_ast.specs.Folds.{StmtSteps, fold_stmt, fold_block}
 
 -- whether a statement is a declaration, and whether each declaration in it stands in a block
 pub record Standing : Type 0 where
@@ -37,27 +37,17 @@ stmt_stands (Stmt-F.Do x) = no_declaration x
 stmt_stands (Stmt-F.For x) = no_declaration x
 stmt_stands _ = no_declaration true
 
-abbrev pub block_stands : Block-F Standing Bool Bool Bool Bool Bool → Bool
-block_stands x = all_settled x.statements
+-- of each part of a statement
+abbrev pub stands_steps : StmtSteps Standing Bool Bool Bool Bool Bool
+stands_steps = record { stmt = stmt_stands; block = λ x. all_settled x.statements; do_loop = λ x. alone x.body; for_loop = λ x. alone_if_any x.first && (alone_if_any x.step && alone x.body); choice = λ x. alone x.yes && alone_if_any x.no; while_loop = λ x. alone x.body }
 
-abbrev pub do_stands : Do-F Standing Bool Bool Bool Bool Bool → Bool
-do_stands x = alone x.body
-
-abbrev pub for_stands : For-F Standing Bool Bool Bool Bool Bool → Bool
-for_stands x = alone_if_any x.first && (alone_if_any x.step && alone x.body)
-
-abbrev pub if_stands : If-F Standing Bool Bool Bool Bool Bool → Bool
-if_stands x = alone x.yes && alone_if_any x.no
-
-abbrev pub while_stands : While-F Standing Bool Bool Bool Bool Bool → Bool
-while_stands x = alone x.body
-
+-- whether a statement is a declaration, and whether each declaration in it stands in a block
 unfoldable pub stands : Stmt → Standing
-stands = fold_stmt Standing Bool Bool Bool Bool Bool stmt_stands block_stands do_stands for_stands if_stands while_stands
+stands = fold_stmt stands_steps
 
 -- whether each declaration in a block stands in a block
 unfoldable pub is_settled : Block → Bool
-is_settled = fold_block Standing Bool Bool Bool Bool Bool stmt_stands block_stands do_stands for_stands if_stands while_stands
+is_settled = fold_block stands_steps
 
 -- in each function of a text
 abbrev pub are_settled : List Item → Bool

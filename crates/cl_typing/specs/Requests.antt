@@ -36,6 +36,7 @@ bytes_rule (Field-F.Text text) = text.bytes
 bytes_rule (Field-F.Formal formal) = []
 bytes_rule (Field-F.Plain x) = []
 
+-- the bytes of a field that is a string; any other has none
 abbrev pub text_bytes : Field → List ℕ
 text_bytes field = bytes_rule (out-Field field)
 

@@ -26,6 +26,7 @@ pub record IsTupleOf (sites : List PlainSignature) (numbers : List ℕ) (set : �
   pub produces : IsTrue (is_producer producer.kind)
   pub instance : IsTrue (is_tuple_of producer.fields t)
 
+-- a template that is an instance of a consumer of a set
 pub record IsTemplateOf (sites : List PlainSignature) (numbers : List ℕ) (set : ℕ) (m : List Slot) : Type 0 where
   pub site : ℕ
   pub consumer : PlainSignature

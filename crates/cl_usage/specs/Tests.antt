@@ -5,6 +5,7 @@ use Rattle.cl_sig.specs.Signatures.{PlainSignature, is_producer}
 use Rattle.cl_sig.specs.declared.signature.Signature.{Signature}
 use Rattle.cl_usage.specs.declared.fields.Test.{Test}
 use Rattle.cl_usage.specs.declared.fields.Test.TheVariants as tests
+use Rattle.cl_ground.specs.declared.limits.TheConstants.{MOST_FIELDS}
 
 -- whether a signature passes a test at a field
 abbrev pub passes : Test → ℕ → PlainSignature → Bool
@@ -19,4 +20,4 @@ first_of (s ∷ all) = Some s
 
 -- a signature has no more fields than a tuple can have
 abbrev pub HasFewFields : Signature → Type 0
-HasFewFields s = length s.fields.items ≤ 16
+HasFewFields s = length s.fields.items ≤ MOST_FIELDS

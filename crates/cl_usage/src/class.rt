@@ -1,5 +1,6 @@
+ghost use Rattle.cl_ground.specs.declared.limits.TheConstants.{MOST_SITES};
 ghost use Rattle.std.specs.Prelude.{◌≡◌, ◌<◌, ◌≤◌, ◌||◌, length, map, All};
-ghost use Rattle.cl_value.specs.Room.{Room};
+ghost use Rattle.cl_ground.specs.Room.{Room};
 ghost use Rattle.cl_sig.specs.Classes.{members, class};
 ghost use Rattle.cl_sig.specs.Classes as spec;
 ghost use Rattle.cl_sig.specs.Fields.{all_below, first_below};
@@ -9,8 +10,8 @@ ghost use Rattle.cl_sig.specs.Views.{plain_signature};
 ghost use Rattle.cl_usage.specs.Tests.{HasFewFields};
 
 use crate::fields::{arity, is_fixed, is_free, is_key};
+use cl_ground::Items;
 use cl_sig::{Class, Sets, Signature};
-use cl_value::Items;
 
 // Whether each of the first fields has one literal at all sites of a set.
 fn all_fixed(sites: &[Signature], numbers: &[u32], set: u32, count: u32) -> bool
@@ -54,7 +55,7 @@ fn first_key(sites: &[Signature], numbers: &[u32], set: u32, count: u32) -> Opti
 
 /// The class of a set: the first that fits. It takes no memory.
 pub fn class_of(sites: &Items<Signature>, sets: &Sets, set: u32) -> Class
-    requires few { length sites.now.items ≤ 1024 }
+    requires few { length sites.now.items ≤ MOST_SITES }
     requires fields { All HasFewFields sites.now.items }
     requires sets { IsPartition (map plain_signature sites.now.items) sets.now }
     requires exists { set < count_of sets.now }

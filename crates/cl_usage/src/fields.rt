@@ -1,7 +1,8 @@
 ghost use Rattle.std.specs.Prelude.{◌≡◌, ◌≤◌, ◌||◌, length, map, slice_get, option_map, All, IfSome, is_some};
 ghost use Rattle.std.specs.Option.{option_copied};
 ghost use Rattle.std.specs.List.{list_all};
-ghost use Rattle.cl_value.specs.Room.{Room};
+ghost use Rattle.cl_ground.specs.Room.{Room};
+ghost use Rattle.cl_ground.specs.declared.limits.TheConstants.{MOST_FIELDS};
 ghost use Rattle.cl_sig.specs.Classes.{members, constant_at, is_fixed, is_received, is_given, is_text, is_key, arity};
 ghost use Rattle.cl_sig.specs.Views.{plain_signature};
 ghost use Rattle.cl_usage.specs.Tests.{passes, first_of, HasFewFields};
@@ -149,7 +150,7 @@ pub fn is_key(sites: &[Signature], numbers: &[u32], set: u32, field: usize) -> b
 pub fn arity(sites: &[Signature], numbers: &[u32], set: u32) -> u32
     requires { All HasFewFields sites.now }
     ensures value { result ≡ arity (members (map plain_signature sites.now) numbers.now set) }
-    ensures few { result ≤ 16 }
+    ensures few { result ≤ MOST_FIELDS }
 {
     match first_member(sites, numbers, set) {
         None => 0,

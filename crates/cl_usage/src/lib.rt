@@ -9,8 +9,6 @@ mod class;
 mod fields;
 mod laws;
 mod shape;
-#[cfg(test)]
-mod tests;
 
 pub use class::class_of;
 pub use laws::{each_field_is_keyed, each_request_suits, each_tuple_matches};

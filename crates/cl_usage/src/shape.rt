@@ -1,5 +1,6 @@
+ghost use Rattle.cl_ground.specs.declared.limits.TheConstants.{MOST_SITES};
 ghost use Rattle.std.specs.Prelude.{◌≡◌, ◌<◌, ◌≤◌, length, map, All, IfOk};
-ghost use Rattle.cl_value.specs.Room.{Room};
+ghost use Rattle.cl_ground.specs.Room.{Room};
 ghost use Rattle.cl_sig.specs.Classes.{members};
 ghost use Rattle.cl_sig.specs.Numbers.{count_of};
 ghost use Rattle.cl_sig.specs.Partitions.{IsPartition};
@@ -9,13 +10,14 @@ ghost use Rattle.cl_usage.specs.Tests.{HasFewFields};
 
 use crate::class::class_of;
 use crate::fields::{first_member, literal_at};
+use cl_ground::{Items, NoMemory};
 use cl_sig::{Kind, Mark, SetShape, Sets, Signature};
-use cl_value::{Items, NoMemory, Value};
+use cl_value::Value;
 use std::alloc::Global;
 
 // The sites of a set in ascending order.
 fn sites_of(alloc: Global, numbers: &[u32], set: u32) -> Result<Items<u32>, NoMemory>
-    requires { length numbers.now ≤ 1024 }
+    requires { length numbers.now ≤ MOST_SITES }
     ensures { IfOk result (λ it. it.items ≡ sites_from 0 numbers.now set) }
 {
     let mut sites = Items::new(alloc);
@@ -93,7 +95,7 @@ pub fn shape_of(
     sets: &Sets,
     set: u32,
 ) -> Result<SetShape, NoMemory>
-    requires few { length sites.now.items ≤ 1024 }
+    requires few { length sites.now.items ≤ MOST_SITES }
     requires fields { All HasFewFields sites.now.items }
     requires sets { IsPartition (map plain_signature sites.now.items) sets.now }
     requires exists { set < count_of sets.now }

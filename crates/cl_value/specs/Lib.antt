@@ -1,4 +1,3 @@
-pub mod Room
 pub mod Fields
 pub mod Matching
 pub mod Plain

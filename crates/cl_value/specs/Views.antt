@@ -16,6 +16,7 @@ use Rattle.cl_value.specs.declared.process.Report.{Report}
 use Rattle.cl_value.specs.declared.process.History.{History}
 use Rattle.cl_value.specs.declared.process.RunReport.{RunReport}
 
+-- an operation as plain data
 abbrev pub plain_ask : Ask → PlainAsk
 plain_ask (asks.Out tuple) = Out tuple.items
 plain_ask (asks.In template) = In template.items
@@ -25,9 +26,11 @@ plain_ask (asks.Rdp template) = Rdp template.items
 plain_ask (asks.Eval live) = Eval (plain_live live)
 plain_ask (asks.Land tuple) = Land tuple.items
 
+-- a request as plain data
 abbrev pub plain_request : Request → PlainRequest
 plain_request request = record { site = request.site; ask = plain_ask request.ask }
 
+-- what was done, as plain data
 abbrev pub plain_what : What → PlainWhat
 plain_what (whats.Out tuple) = DidOut tuple.items
 plain_what (whats.In template tuple) = DidIn template.items tuple.items
@@ -39,13 +42,16 @@ plain_what (whats.RdpMiss template) = RdpMiss template.items
 plain_what (whats.Eval live) = DidEval (plain_live live)
 plain_what (whats.Land tuple) = DidLand tuple.items
 
+-- an act as plain data
 abbrev pub plain_act : Act → PlainAct
 plain_act act = record { ticket = act.ticket; proc = act.proc; site = act.site; what = plain_what act.what }
 
+-- what a process begins with, as plain data
 abbrev pub plain_start : Start → PlainStart
 plain_start starts.Main = Main
 plain_start (starts.Live site live depth) = Lives site (plain_live live) depth
 
+-- how a process ended, as plain data
 abbrev pub plain_end : End → PlainEnd
 plain_end (ends.Ended values) = Ended values.items
 plain_end (ends.Trapped trap) = Trapped trap
@@ -55,6 +61,7 @@ plain_end ends.NoMemory = NoMemory
 plain_end (ends.Stopped by) = Stopped by
 plain_end ends.Waiting = Waiting
 
+-- the report of a process as plain data
 abbrev pub plain_report : Report → PlainReport
 plain_report r =
     record {
@@ -66,9 +73,11 @@ plain_report r =
       kids = r.kids.items;
     }
 
+-- the history of a set as plain data
 abbrev pub plain_history : History → PlainHistory
 plain_history h = record { set = h.set; acts = map plain_act h.acts.items }
 
+-- the report of a run as plain data
 abbrev pub plain_run : RunReport → PlainRun
 plain_run run =
     record {

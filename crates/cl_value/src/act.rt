@@ -1,4 +1,5 @@
-use crate::{Live, NoMemory, Template, Tuple};
+use crate::{Live, Template, Tuple};
+use cl_ground::NoMemory;
 use std::alloc::Global;
 
 /// A tuple operation that was done (Gelernter 1985; Carriero and Gelernter, "How to Write Parallel

@@ -6,19 +6,15 @@
 #![tactic(auto)]
 
 mod act;
-mod items;
 mod live;
 mod process;
 mod request;
 mod steps;
 mod template;
-#[cfg(test)]
-mod tests;
 mod tuple;
 mod value;
 
 pub use act::{Act, What};
-pub use items::{Items, NoMemory};
 pub use live::{Live, LiveField};
 pub use process::{End, History, Limits, Reply, Report, RunReport, Start, Trap};
 pub use request::{Ask, Request};

@@ -1,4 +1,5 @@
-use crate::{FieldType, Items, NoMemory, Value};
+use crate::{FieldType, Value};
+use cl_ground::{Items, NoMemory};
 use std::alloc::Global;
 use std::marker::Model;
 
@@ -55,23 +56,25 @@ pub struct Live {
 impl Model for Live {
     ghost use Rattle.std.specs.Prelude.{◌<◌, ◌≤◌, length};
     ghost use Rattle.cl_value.specs.LiveViews.{Parts};
+    ghost use Rattle.cl_ground.specs.declared.limits.TheConstants.{MOST_FIELDS};
 
     ghost Value = { Parts };
 
     ghost view = { λ t. t.fields };
 
-    ghost invariant = { λ t. (0 < length t.fields.items) × (length t.fields.items ≤ 16) };
+    ghost invariant = { λ t. (0 < length t.fields.items) × (length t.fields.items ≤ MOST_FIELDS) };
 }
 
 impl Live {
     ghost use Rattle.std.specs.Prelude.{◌≡◌, ◌<◌, ◌≤◌, length, slice_get, IfOk, Some};
-    ghost use Rattle.cl_value.specs.Room.{Room};
+    ghost use Rattle.cl_ground.specs.Room.{Room};
     ghost use Rattle.cl_value.specs.LiveViews.{plain_live};
+    ghost use Rattle.cl_ground.specs.declared.limits.TheConstants.{MOST_FIELDS};
 
     /// The live tuple of these fields. It takes no memory.
     pub fn new(fields: Items<LiveField>) -> Live
         requires some { 0 < length fields.items }
-        requires few { length fields.items ≤ 16 }
+        requires few { length fields.items ≤ MOST_FIELDS }
         ensures { result ≡ fields }
     {
         Live { fields }
@@ -81,7 +84,7 @@ impl Live {
     pub fn into_items(self) -> Items<LiveField>
         ensures same { result ≡ self }
         ensures some { 0 < length self.items }
-        ensures few { length self.items ≤ 16 }
+        ensures few { length self.items ≤ MOST_FIELDS }
     {
         let Live { fields } = self;
         fields
@@ -92,7 +95,7 @@ impl Live {
     pub fn len(&self) -> usize
         ensures value { result ≡ length self.now.items }
         ensures some { 0 < result }
-        ensures few { result ≤ 16 }
+        ensures few { result ≤ MOST_FIELDS }
     {
         self.fields.len()
     }
@@ -122,7 +125,7 @@ impl Live {
 }
 
 ghost use Rattle.std.specs.Prelude.{◌≡◌, length, map, IfOk};
-ghost use Rattle.cl_value.specs.Room.{Room};
+ghost use Rattle.cl_ground.specs.Room.{Room};
 ghost use Rattle.cl_value.specs.LiveViews.{plain_part};
 
 // Fields that equal these.

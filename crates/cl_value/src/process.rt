@@ -1,4 +1,5 @@
-use crate::{Act, Items, Live, Tuple};
+use crate::{Act, Live, Tuple};
+use cl_ground::Items;
 
 /// Why a process can't go on. C leaves what comes then undefined or to the implementation; here it is
 /// the end of the process.
@@ -68,12 +69,13 @@ pub struct Limits {
     pub steps: u64,
     /// Acts of a set, from 1 to 16,777,216.
     pub entries: u32,
-    ghost few_steps: { steps ≤ 1_099_511_627_776 },
+    ghost few_steps: { steps ≤ MOST_STEPS },
     ghost some_entries: { 0 < entries },
     ghost few_entries: { entries ≤ 16_777_216 },
 }
 
 ghost use Rattle.std.specs.Prelude.{◌<◌, ◌≤◌};
+ghost use Rattle.cl_ground.specs.declared.limits.TheConstants.{MOST_STEPS};
 
 /// What a process is told when it goes on.
 #[derive(Drop)]

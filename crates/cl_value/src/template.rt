@@ -1,4 +1,5 @@
-use crate::{FieldType, Items, NoMemory, Steps, Tuple, Value};
+use crate::{FieldType, Steps, Tuple, Value};
+use cl_ground::{Items, NoMemory};
 use std::alloc::Global;
 use std::marker::Model;
 use std::sync::ledger::Ledger;
@@ -48,24 +49,26 @@ impl Model for Template {
     ghost use Rattle.std.specs.List.{list_all};
     ghost use Rattle.cl_value.specs.Fields.{Slots};
     ghost use Rattle.cl_value.specs.Matching.{may_stand};
+    ghost use Rattle.cl_ground.specs.declared.limits.TheConstants.{MOST_FIELDS};
 
     ghost Value = { Slots };
 
     ghost view = { λ t. t.slots };
 
-    ghost invariant = { λ t. (0 < length t.slots.items) × (length t.slots.items ≤ 16) × IsTrue (list_all may_stand t.slots.items) };
+    ghost invariant = { λ t. (0 < length t.slots.items) × (length t.slots.items ≤ MOST_FIELDS) × IsTrue (list_all may_stand t.slots.items) };
 }
 
 impl Template {
     ghost use Rattle.std.specs.Prelude.{◌≡◌, ◌+◌, ◌<◌, ◌≤◌, length, slice_get, IfOk, IsTrue, Some};
     ghost use Rattle.std.specs.List.{list_all};
-    ghost use Rattle.cl_value.specs.Room.{Room};
+    ghost use Rattle.cl_ground.specs.Room.{Room};
     ghost use Rattle.cl_value.specs.Matching.{matches, may_stand};
+    ghost use Rattle.cl_ground.specs.declared.limits.TheConstants.{MOST_FIELDS};
 
     /// The template of these slots. It takes no memory.
     pub fn new(slots: Items<Slot>) -> Template
         requires some { 0 < length slots.items }
-        requires few { length slots.items ≤ 16 }
+        requires few { length slots.items ≤ MOST_FIELDS }
         requires stand { IsTrue (list_all may_stand slots.items) }
         ensures { result ≡ slots }
     {
@@ -76,7 +79,7 @@ impl Template {
     pub fn into_items(self) -> Items<Slot>
         ensures same { result ≡ self }
         ensures some { 0 < length self.items }
-        ensures few { length self.items ≤ 16 }
+        ensures few { length self.items ≤ MOST_FIELDS }
         ensures stand { IsTrue (list_all may_stand self.items) }
     {
         let Template { slots } = self;
@@ -99,7 +102,7 @@ impl Template {
     pub fn len(&self) -> usize
         ensures value { result ≡ length self.now.items }
         ensures some { 0 < result }
-        ensures few { result ≤ 16 }
+        ensures few { result ≤ MOST_FIELDS }
     {
         self.slots.len()
     }

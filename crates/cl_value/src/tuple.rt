@@ -1,4 +1,5 @@
-use crate::{Items, NoMemory, Value};
+use crate::Value;
+use cl_ground::{Items, MOST_FIELDS, NoMemory};
 use std::alloc::Global;
 use std::marker::Model;
 
@@ -13,25 +14,24 @@ pub struct Tuple {
 impl Model for Tuple {
     ghost use Rattle.std.specs.Prelude.{◌<◌, ◌≤◌, length};
     ghost use Rattle.cl_value.specs.Fields.{Fields};
+    ghost use Rattle.cl_ground.specs.declared.limits.TheConstants.{MOST_FIELDS};
 
     ghost Value = { Fields };
 
     ghost view = { λ t. t.fields };
 
-    ghost invariant = { λ t. (0 < length t.fields.items) × (length t.fields.items ≤ 16) };
+    ghost invariant = { λ t. (0 < length t.fields.items) × (length t.fields.items ≤ MOST_FIELDS) };
 }
 
 impl Tuple {
     ghost use Rattle.std.specs.Prelude.{◌≡◌, ◌<◌, ◌≤◌, [], ◌∷◌, ◌++◌, length, slice_get, IfOk, pos, Some};
-    ghost use Rattle.cl_value.specs.Room.{Room, HasRoom, capacity_of};
-
-    /// The most fields that a tuple has.
-    pub const MOST_FIELDS: usize = 16;
+    ghost use Rattle.cl_ground.specs.Room.{Room, HasRoom, capacity_of};
+    ghost use Rattle.cl_ground.specs.declared.limits.TheConstants.{MOST_FIELDS};
 
     /// The tuple of these fields. It takes no memory.
     pub fn new(fields: Items<Value>) -> Tuple
         requires some { 0 < length fields.items }
-        requires few { length fields.items ≤ 16 }
+        requires few { length fields.items ≤ MOST_FIELDS }
         ensures { result ≡ fields }
     {
         Tuple { fields }
@@ -41,7 +41,7 @@ impl Tuple {
     pub fn into_items(self) -> Items<Value>
         ensures same { result ≡ self }
         ensures some { 0 < length self.items }
-        ensures few { length self.items ≤ 16 }
+        ensures few { length self.items ≤ MOST_FIELDS }
     {
         let Tuple { fields } = self;
         fields
@@ -51,10 +51,10 @@ impl Tuple {
     /// allocator refused that room.
     pub fn with_room(alloc: Global) -> Result<Tuple, NoMemory>
         ensures fields { IfOk result (λ t. t.items ≡ Value.Int (pos 0) ∷ []) }
-        ensures room { IfOk result (HasRoom 16) }
+        ensures room { IfOk result (HasRoom MOST_FIELDS) }
     {
         let mut fields = Items::new(alloc);
-        fields.reserve(Tuple::MOST_FIELDS)?;
+        fields.reserve(MOST_FIELDS)?;
         fields.push(Value::Int(0));
         Ok(Tuple { fields })
     }
@@ -70,8 +70,8 @@ impl Tuple {
 
     /// Puts a field last. It takes no memory.
     pub fn push(&mut self, value: Value)
-        requires room { HasRoom 16 self.old }
-        requires few { length self.old.items < 16 }
+        requires room { HasRoom MOST_FIELDS self.old }
+        requires few { length self.old.items < MOST_FIELDS }
         ensures fields { self.new.items ≡ self.old.items ++ value ∷ [] }
         ensures room { capacity_of self.new ≡ capacity_of self.old }
     {
@@ -80,7 +80,7 @@ impl Tuple {
 
     /// Makes it a tuple of the same fields. It keeps its room and takes no memory.
     pub fn refill(&mut self, from: &Tuple)
-        requires { HasRoom 16 self.old }
+        requires { HasRoom MOST_FIELDS self.old }
         ensures fields { self.new.items ≡ from.now.items }
         ensures room { capacity_of self.new ≡ capacity_of self.old }
     {
@@ -96,7 +96,7 @@ impl Tuple {
     pub fn len(&self) -> usize
         ensures value { result ≡ length self.now.items }
         ensures some { 0 < result }
-        ensures few { result ≤ 16 }
+        ensures few { result ≤ MOST_FIELDS }
     {
         self.fields.len()
     }

@@ -99,9 +99,6 @@ stands_cell Local k n old mid e = (e, refl)
 stands_cell Global k n old mid e = (e, refl)
 
 -- numbers that were taken
-state_taken : (x : ℤ) (e : Engine) → state_of (with_number x e) ≡ state_of e
-state_taken x e = refl
-
 near_taken : (x : ℤ) (e : Engine) → IsNear (with_number x e) e
 near_taken x e = record { frames = refl; output = refl; ticks = refl; depth = refl; cells = refl; sizes = (refl, refl, refl, refl, refl) }
 

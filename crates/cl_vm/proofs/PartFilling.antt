@@ -3,7 +3,7 @@ use Rattle.std.proofs.Common.{◌≡◌, ℕ, true, zero, suc, ◌+◌, ◌≤�
 use Rattle.std.proofs.lemmas.List.{map-append, length-map}
 use Rattle.std.specs.List.{list_all}
 use Rattle.std.specs.Prelude.{ℤ, Result, Ok, Err, OnOk, map, remove, slice_get}
-use Rattle.cl_value.specs.Room.{Room, capacity_of, HasRoom}
+use Rattle.cl_ground.specs.Room.{Room, capacity_of, HasRoom}
 use Rattle.cl_value.specs.LiveViews.{plain_part}
 use Rattle.cl_value.specs.Plain.{PlainPart, Call}
 use Rattle.cl_value.specs.declared.live.LiveField.{LiveField}
@@ -125,11 +125,6 @@ keeps_call w field arguments list a b x y first rest room e s own same_room wide
       wide_spare = subst (AreWide w) (sym rest) both.1;
     }
 
-pub wide_rest : (w : ℕ) (list : Room Value) (x y : Room (Room Value)) → slice_get x.items 0 ≡ Some list → y.items ≡ remove x.items 0 → AreWide w x.items → AreWide w y.items
-wide_rest w list x y first rest wide =
-    let both : AreWide w (list ∷ drop 1 x.items) = subst (AreWide w) (first_and_rest list x.items first) wide in
-    subst (AreWide w) (sym rest) both.1
-
 -- ---- how wide they must be
 
 parameters_few : (fs : List PlainFunction) (k : ℕ) → length (parameters_or_none (slice_get fs k)) ≤ widest_of fs
@@ -171,9 +166,6 @@ pub live_long : (p : PlainProgram) (ms : List Mark) (calls : List (Option ℕ)) 
 live_long p ms calls ns r u old new h e none is =
     let (fields, read, all) = filled_ok parts_of (fields_of p (places ms calls) ns) r u (map plain_part old) (map plain_part new) e is in
     sym (length-map new plain_part) ∙ ap (λ (ps : List PlainPart). length ps) (all ∙ ap (λ (fs : List LiveField). map plain_part fs ++ parts_of fields) none) ∙ parts_long p ms calls ns fields h read
-
-pub keeps_refl : (w : ℕ) (a : Room LiveField) (x : Room (Room Value)) → AreWide w x.items → KeepsLists w a a x x
-keeps_refl w a x wide = record { fields_room = refl; spare_room = refl; count = refl; wide_fields = λ h. h; wide_spare = wide }
 
 -- ---- fields that are let go
 

@@ -141,20 +141,6 @@ module _ (before now text rest : List ℕ) (numbers left : List ℤ) (on : Print
       let f = length-append (piece_bytes kind left) (printed piece_first.0 (drop (takes_of kind) left)) in
       omega (arith, a, b, c, d, f, many)
 
-pub prints_at_first : (before text : List ℕ) (numbers : List ℤ) (all : List Piece) → pieces text ≡ Some all → count_of all ≤ length numbers → length before ≤ 65536 → PrintsOn before before text text numbers numbers
-prints_at_first before text numbers all is enough few = record {
-  more = all;
-  is = is;
-  enough = enough;
-  same = λ other other_is. ap (λ (xs : List Piece). before ++ printed xs numbers) (same_Some all other (sym is ∙ other_is));
-  few = few;
-}
-
-pub prints_at_end : (before now text : List ℕ) (numbers left : List ℤ) → PrintsOn before now text [] numbers left → (all : List Piece) → pieces text ≡ Some all → Added before true (printed all numbers) now
-prints_at_end before now text numbers left on all is =
-    let none : on.more ≡ [] = same_Some on.more [] (sym on.is) in
-    (sym (append-nil now) ∙ ap (λ (xs : List Piece). now ++ printed xs left) (sym none) ∙ on.same all is, on.few)
-
 -- ---- one piece of a text, as a function reads it
 
 -- what was read of the rest of a text is its first piece

@@ -6,7 +6,3 @@ use Rattle.cl_code.specs.Machine.{pushed}
 pub pushed_on : (ns ms : List ℤ) (stack : List ℤ) → pushed (ns ++ ms) stack ≡ pushed ms (pushed ns stack)
 pushed_on [] ms stack = refl
 pushed_on (n ∷ ns) ms stack = pushed_on ns ms (n ∷ stack)
-
-pub pushed_long : (ns : List ℤ) (stack : List ℤ) → length (pushed ns stack) ≡ length ns + length stack
-pushed_long [] stack = omega arith
-pushed_long (n ∷ ns) stack = let rest = pushed_long ns (n ∷ stack) in omega (arith, rest)

@@ -3,7 +3,7 @@ use Rattle.std.proofs.Common.{◌≡◌, ℕ, true, List, [], ◌∷◌, ◌++�
 use Rattle.std.proofs.Math.Path.{fun_ext}
 use Rattle.cl_value.specs.Acts.{fits}
 use Rattle.cl_value.specs.Plain.{PlainAsk, PlainReply, PlainRequest, PlainStart, Main, Lives, Land}
-use Rattle.cl_value.specs.Room.{Room}
+use Rattle.cl_ground.specs.Room.{Room}
 use Rattle.cl_value.specs.Views.{plain_ask}
 use Rattle.cl_value.specs.declared.process.Reply.{Reply}
 use Rattle.cl_value.specs.declared.process.Reply.TheVariants as replied

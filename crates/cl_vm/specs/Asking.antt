@@ -1,6 +1,6 @@
 -- How the request of an operation is built from numbers. (This project.)
 use Rattle.std.specs.Prelude.{◌≡◌, ℕ, Bool, true, false, List, ◌++◌, Result, Ok, Err}
-use Rattle.cl_value.specs.Room.{Room, capacity_of}
+use Rattle.cl_ground.specs.Room.{Room, capacity_of}
 use Rattle.cl_value.specs.Views.{plain_ask}
 use Rattle.cl_value.specs.declared.live.LiveField.{LiveField}
 use Rattle.cl_value.specs.declared.live.LiveField.TheVariants as fields
@@ -32,6 +32,7 @@ abbrev pub IsCallOf : ℕ → FieldType → List Value → Room Value → LiveFi
 IsCallOf function gives read list (fields.Call f arguments g) = (f ≡ function) × (g ≡ gives) × (arguments.items ≡ read) × (capacity_of arguments ≡ capacity_of list)
 IsCallOf function gives read list (fields.Ready v) = ⊥
 
+-- a list is filled with the arguments of a call, or the trap is that of reading them
 abbrev pub CallFilled : ℕ → FieldType → Checked (List Value) → Room Value → Result LiveField Trap → Type 0
 CallFilled function gives (Ok read) list (Ok field) = IsCallOf function gives read list field
 CallFilled function gives (Err t) list (Err u) = t ≡ u
@@ -42,6 +43,7 @@ abbrev pub is_evaluated : Mark → Bool
 is_evaluated (marks.Formal type) = false
 is_evaluated _ = true
 
+-- whether a field, if it is a formal, is of a type of numbers
 abbrev pub is_receivable : Mark → Bool
 is_receivable (marks.Formal type) = is_of_number type
 is_receivable _ = true

@@ -6,6 +6,7 @@ use Rattle.cl_code.specs.Plain.{PlainFunction, PlainProgram}
 use Rattle.cl_vm.specs.declared.engine.Engine.{Engine}
 use Rattle.cl_vm.specs.declared.starting.Progress.{Progress}
 use Rattle.cl_vm.specs.declared.starting.Progress.TheVariants as reached
+use Rattle.cl_ground.specs.declared.limits.TheConstants.{MOST_ACTIVE, MOST_CELLS, MOST_PRINTED}
 
 -- how many cells a function claims that may be there
 abbrev pub cells_or_none : Option PlainFunction → ℕ
@@ -22,24 +23,25 @@ pub record IsFresh (p : PlainProgram) (steps depth : ℕ) (e : Engine) : Type 0 
   pub highest : ℕ
   pub most : ℕ
   pub are_most : AreMost p highest most
-  pub globals : length p.globals ≤ 65536 → e.memory.globals ≡ p.globals
-  pub few : length e.memory.globals ≤ 65536
+  pub globals : length p.globals ≤ MOST_CELLS → e.memory.globals ≡ p.globals
+  pub few : length e.memory.globals ≤ MOST_CELLS
   pub frame : e.memory.frame ≡ []
   pub stack : e.memory.stack ≡ []
   pub frames : e.memory.frames ≡ []
-  pub space : e.memory.space ≡ 256 * highest
-  pub cell_room : e.memory.cell_room + length e.memory.globals ≡ 65536 + 256 * most
+  pub space : e.memory.space ≡ MOST_ACTIVE * highest
+  pub cell_room : e.memory.cell_room + length e.memory.globals ≡ MOST_CELLS + MOST_ACTIVE * most
   pub frame_room : e.memory.frame_room ≡ 255
   pub ticks : e.ticks ≡ steps
   pub depth_is : e.depth ≡ depth
   pub output : e.output.items ≡ []
-  pub output_room : 65536 ≤ vec_capacity e.output
+  pub output_room : MOST_PRINTED ≤ vec_capacity e.output
 
 -- the highest stack, and the most temporaries
 abbrev pub highest_of : List PlainFunction → ℕ
 highest_of [] = 0
 highest_of (f ∷ fs) = max f.stack (highest_of fs)
 
+-- the most temporaries of these functions
 abbrev pub most_of : List PlainFunction → ℕ
 most_of [] = 0
 most_of (f ∷ fs) = max f.temporaries (most_of fs)

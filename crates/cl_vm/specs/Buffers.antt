@@ -1,6 +1,6 @@
 -- The request at which a process stands, and the lists into which the next one is filled. (This project.)
 use Rattle.std.specs.Prelude.{◌≡◌, ℕ, ◌+◌, ◌≤◌, true, false, List, [], length, Option, Some, None, Result, Ok, Err}
-use Rattle.cl_value.specs.Room.{Room, capacity_of, HasRoom}
+use Rattle.cl_ground.specs.Room.{Room, capacity_of, HasRoom}
 use Rattle.cl_value.specs.LiveViews.{plain_live}
 use Rattle.cl_value.specs.Views.{plain_ask, plain_request}
 use Rattle.cl_value.specs.declared.live.LiveField.{LiveField}
@@ -17,6 +17,7 @@ use Rattle.cl_code.specs.Machine.{may_ask}
 use Rattle.cl_code.specs.Sites.{Field, asked, parts_of}
 use Rattle.cl_vm.specs.Parts.{AreWide, lists_of}
 use Rattle.cl_vm.specs.declared.buffers.Buffers.{Buffers}
+use Rattle.cl_ground.specs.declared.limits.TheConstants.{MOST_FIELDS}
 
 -- the list of an operation's values, slots or fields, where it has one; else the spare one
 abbrev pub values_in : Ask → Room Value → Room Value
@@ -24,6 +25,7 @@ values_in (asks.Out tuple) spare = tuple
 values_in (asks.Land tuple) spare = tuple
 values_in _ spare = spare
 
+-- the list of slots: that of the request, if it has one
 abbrev pub slots_in : Ask → Room Slot → Room Slot
 slots_in (asks.In template) spare = template
 slots_in (asks.Rd template) spare = template
@@ -31,6 +33,7 @@ slots_in (asks.Inp template) spare = template
 slots_in (asks.Rdp template) spare = template
 slots_in _ spare = spare
 
+-- the list of live fields: that of the request, if it has one
 abbrev pub fields_in : Ask → Room LiveField → Room LiveField
 fields_in (asks.Eval live) spare = live
 fields_in _ spare = spare
@@ -42,14 +45,15 @@ held_in look (Some request) spare = look request.ask spare
 
 -- whatever is asked for next, there is room for it: 16 fields, and a list of arguments for each, of so many values
 pub record HasLists (widest : ℕ) (tuple : Room Value) (template : Room Slot) (live : Room LiveField) (others : Room (Room Value)) : Type 0 where
-  pub values : HasRoom 16 tuple
-  pub slots : HasRoom 16 template
-  pub fields : HasRoom 16 live
-  pub enough : 16 ≤ length (lists_of live.items) + length others.items
+  pub values : HasRoom MOST_FIELDS tuple
+  pub slots : HasRoom MOST_FIELDS template
+  pub fields : HasRoom MOST_FIELDS live
+  pub enough : MOST_FIELDS ≤ length (lists_of live.items) + length others.items
   pub room : length (lists_of live.items) + length others.items ≤ capacity_of others
   pub wide_fields : AreWide widest (lists_of live.items)
   pub wide_spare : AreWide widest others.items
 
+-- there is room for whatever is asked for next, with arguments of so many values
 abbrev pub IsReady : ℕ → Buffers → Type 0
 IsReady widest b = HasLists widest (held_in values_in b.request b.values) (held_in slots_in b.request b.slots) (held_in fields_in b.request b.fields) b.spare
 

@@ -16,7 +16,9 @@ use Rattle.cl_vm.specs.Memory.{with_pushed, with_local, with_global, with_entere
 use Rattle.cl_vm.specs.declared.engine.Engine.{Engine}
 use Rattle.cl_vm.specs.declared.engine.Flow.{Flow}
 use Rattle.cl_vm.specs.declared.engine.Flow.TheVariants as flows
+use Rattle.cl_ground.specs.declared.limits.TheConstants.{MOST_ACTIVE, MOST_CELLS, MOST_PRINTED}
 
+-- what the meaning of instructions sees of an engine
 abbrev pub state_of : Engine → State Cells
 state_of e = record { variables = record { globals = e.memory.globals; frame = e.memory.frame }; ticks = e.ticks; cells = e.cells; printed = length e.output.items }
 
@@ -30,9 +32,11 @@ onward p behind e replies = code_demand_of ((machine p e.depth e.memory.frames e
 
 -- ---- one instruction
 
+-- one number more on the stack
 abbrev pub with_number : ℤ → Engine → Engine
 with_number n e = record e { memory = with_pushed n e.memory }
 
+-- a cell of the frame or of the globals has this number
 abbrev pub with_cell : Where → ℕ → ℤ → Engine → Engine
 with_cell Local k n e = record e { memory = with_local k n e.memory }
 with_cell Global k n e = record e { memory = with_global k n e.memory }
@@ -81,8 +85,8 @@ Led p old (flows.Ask site) new = (new ≡ old) × (slice_get p.code old.place �
 abbrev pub call_traps : PlainFunction → Engine → Option Trap
 call_traps f e =
     if e.ticks == 0 then Some StepLimit
-    else (if nat_lt (suc (length e.memory.frames)) 256
-    then (if nat_lt 65536 (e.cells + f.cells) then Some CellLimit else None)
+    else (if nat_lt (suc (length e.memory.frames)) MOST_ACTIVE
+    then (if nat_lt MOST_CELLS (e.cells + f.cells) then Some CellLimit else None)
     else Some CallDepth)
 
 -- a function is entered
@@ -95,11 +99,13 @@ entered f e =
       cells = e.cells + f.cells;
     }
 
+-- a function is called: it is entered, or the call traps
 abbrev pub Calls : PlainFunction → Engine → Flow → Engine → Type 0
 Calls f old flows.On new = (call_traps f old ≡ None) × (new ≡ entered f old)
 Calls f old (flows.Stop t) new = (call_traps f old ≡ Some t) × (new.output.items ≡ old.output.items)
 Calls f old _ new = ⊥
 
+-- a tick is counted, or none is left
 abbrev pub Ticks : Engine → Flow → Engine → Type 0
 Ticks old flows.On new = (0 < old.ticks) × (new ≡ record old { ticks = old.ticks - 1 })
 Ticks old (flows.Stop t) new = (old.ticks ≡ 0) × (t ≡ StepLimit) × (new.output.items ≡ old.output.items)
@@ -122,8 +128,8 @@ Returns old _ new = ⊥
 
 -- bytes were printed, and these numbers are left
 abbrev pub Shown : List ℕ → List ℤ → Engine → Flow → Engine → Type 0
-Shown bytes rest old flows.On new = (new.output.items ≡ old.output.items ++ bytes) × (length new.output.items ≤ 65536) × (vec_capacity new.output ≡ vec_capacity old.output) × (new ≡ record old { memory = record old.memory { stack = rest }; output = new.output })
-Shown bytes rest old (flows.Stop t) new = (t ≡ OutputLimit) × (65536 < length old.output.items + length bytes) × (new.output.items ≡ old.output.items)
+Shown bytes rest old flows.On new = (new.output.items ≡ old.output.items ++ bytes) × (length new.output.items ≤ MOST_PRINTED) × (vec_capacity new.output ≡ vec_capacity old.output) × (new ≡ record old { memory = record old.memory { stack = rest }; output = new.output })
+Shown bytes rest old (flows.Stop t) new = (t ≡ OutputLimit) × (MOST_PRINTED < length old.output.items + length bytes) × (new.output.items ≡ old.output.items)
 Shown bytes rest old _ new = ⊥
 
 -- the text of this format, in pieces

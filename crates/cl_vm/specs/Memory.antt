@@ -2,6 +2,7 @@
 use Rattle.std.specs.Prelude.{ℕ, ◌+◌, ◌-◌, List, [], ◌∷◌, ◌++◌, take, drop, reverse, length, replicate, slice_set, ℤ, pos}
 use Rattle.cl_code.specs.Machine.{Frame, cleared}
 
+-- the cells and the numbers of all active functions, and how many more there may be
 pub record Memory : Type 0 where
   pub globals : List ℤ
   pub frame : List ℤ
@@ -40,6 +41,7 @@ with_added ns m = record m { frame = m.frame ++ ns; cell_room = m.cell_room - le
 abbrev pub with_none : Memory → Memory
 with_none m = record m { frame = []; stack = []; cell_room = m.cell_room + length m.frame }
 
+-- one number more
 abbrev pub with_pushed : ℤ → Memory → Memory
 with_pushed n m = record m { stack = n ∷ m.stack }
 
@@ -47,12 +49,15 @@ with_pushed n m = record m { stack = n ∷ m.stack }
 abbrev pub with_dropped : ℕ → Memory → Memory
 with_dropped count m = record m { stack = drop count m.stack }
 
+-- a cell of the frame has this number
 abbrev pub with_local : ℕ → ℤ → Memory → Memory
 with_local k n m = record m { frame = slice_set m.frame k n }
 
+-- a global cell has this number
 abbrev pub with_global : ℕ → ℤ → Memory → Memory
 with_global k n m = record m { globals = slice_set m.globals k n }
 
+-- so many cells of the frame are zeros
 abbrev pub with_cleared : ℕ → ℕ → Memory → Memory
 with_cleared base count m = record m { frame = cleared base count m.frame }
 

@@ -10,6 +10,7 @@ abbrev pub frames_of : List Waiting → List ℤ → List ℤ → List Frame
 frames_of [] cells numbers = []
 frames_of (w ∷ ws) cells numbers = record { place = w.place; stack = reverse (drop w.floor numbers); cells = drop w.base cells; claimed = w.claimed } ∷ frames_of ws (take w.base cells) (take w.floor numbers)
 
+-- what a memory holds
 abbrev pub memory_of : Inside → Memory
 memory_of m =
     record {
@@ -27,6 +28,7 @@ abbrev pub Nested : ℕ → List Waiting → ℕ → ℕ → Type 0
 Nested globals [] base floor = Unit {0}
 Nested globals (w ∷ ws) base floor = (globals ≤ w.base) × (w.base ≤ base) × (w.floor ≤ floor) × Nested globals ws w.base w.floor
 
+-- the parts of its lists lie one behind the other
 pub record IsLaidOut (m : Inside) : Type 0 where
   pub globals : m.globals ≤ m.base
   pub base : m.base ≤ length m.cells.items

@@ -17,6 +17,7 @@ use Rattle.cl_vm.specs.declared.engine.Flow.{Flow}
 use Rattle.cl_vm.specs.declared.engine.Flow.TheVariants as flows
 use Rattle.cl_vm.specs.declared.starting.Progress.{Progress}
 use Rattle.cl_vm.specs.declared.starting.Progress.TheVariants as reached
+use Rattle.cl_ground.specs.declared.limits.TheConstants.{MOST_ACTIVE, MOST_CELLS, MOST_PRINTED}
 
 -- ---- between two of them
 
@@ -26,17 +27,17 @@ pub record IsIdle (p : PlainProgram) (e : Engine) : Type 0 where
   pub most : ℕ
   pub are_most : AreMost p highest most
   pub frames : e.memory.frames ≡ []
-  pub space : e.memory.space ≡ 256 * highest
+  pub space : e.memory.space ≡ MOST_ACTIVE * highest
   pub frame_room : e.memory.frame_room ≡ 255
-  pub cell_room : e.memory.cell_room + (length e.memory.globals + length e.memory.frame) ≡ 65536 + 256 * most
+  pub cell_room : e.memory.cell_room + (length e.memory.globals + length e.memory.frame) ≡ MOST_CELLS + MOST_ACTIVE * most
   pub total : length e.memory.globals ≤ e.cells
-  pub limit : e.cells ≤ 65536
-  pub output : (65536 ≤ vec_capacity e.output) × (length e.output.items ≤ 65536)
+  pub limit : e.cells ≤ MOST_CELLS
+  pub output : (MOST_PRINTED ≤ vec_capacity e.output) × (length e.output.items ≤ MOST_PRINTED)
 
 -- the cells of the globals are claimed
 abbrev pub ClaimsGlobals : PlainProgram → Engine → Flow → Engine → Type 0
-ClaimsGlobals p old flows.On new = (length p.globals ≤ 65536) × (new ≡ record old { cells = length p.globals })
-ClaimsGlobals p old (flows.Stop t) new = (65536 < length p.globals) × (t ≡ CellLimit) × (new ≡ old)
+ClaimsGlobals p old flows.On new = (length p.globals ≤ MOST_CELLS) × (new ≡ record old { cells = length p.globals })
+ClaimsGlobals p old (flows.Stop t) new = (MOST_CELLS < length p.globals) × (t ≡ CellLimit) × (new ≡ old)
 ClaimsGlobals p old _ new = ⊥
 
 -- a function is entered with these arguments, and the cells and numbers of the one before are dropped
@@ -48,9 +49,10 @@ first_entered f ns e =
       cells = e.cells + f.cells;
     }
 
+-- a function is entered that nothing waits for, or there are too many cells
 abbrev pub EntersFirst : PlainFunction → List ℤ → Engine → Flow → Engine → Type 0
-EntersFirst f ns old flows.On new = (old.cells + f.cells ≤ 65536) × (new ≡ first_entered f ns old)
-EntersFirst f ns old (flows.Stop t) new = (65536 < old.cells + f.cells) × (t ≡ CellLimit) × (new ≡ old)
+EntersFirst f ns old flows.On new = (old.cells + f.cells ≤ MOST_CELLS) × (new ≡ first_entered f ns old)
+EntersFirst f ns old (flows.Stop t) new = (MOST_CELLS < old.cells + f.cells) × (t ≡ CellLimit) × (new ≡ old)
 EntersFirst f ns old _ new = ⊥
 
 -- ---- what is done with a result
@@ -89,7 +91,7 @@ IsFine demanded = (replies : List PlainReply) → (demanded replies).outcome ≡
 pub record ArgumentsFit (p : PlainProgram) (k : ℕ) (arguments : List Value) : Type 0 where
   pub function : PlainFunction
   pub is : slice_get p.functions k ≡ Some function
-  pub few : function.cells ≤ 65536 → length arguments ≤ frame_size function
+  pub few : function.cells ≤ MOST_CELLS → length arguments ≤ frame_size function
 
 -- how many cells it claims
 abbrev pub claimed_at : PlainProgram → ℕ → ℕ

@@ -1,6 +1,6 @@
 -- The live tuple of an `eval` is filled into lists that were made before: one for its fields, and one for the arguments of each call. (This project.)
 use Rattle.std.specs.Prelude.{◌≡◌, ℕ, max, ◌+◌, List, [], ◌∷◌, length, Option, None}
-use Rattle.cl_value.specs.Room.{Room, capacity_of, HasRoom}
+use Rattle.cl_ground.specs.Room.{Room, capacity_of, HasRoom}
 use Rattle.cl_value.specs.declared.live.LiveField.{LiveField}
 use Rattle.cl_value.specs.declared.live.LiveField.TheVariants as fields
 use Rattle.cl_value.specs.declared.value.Value.{Value}

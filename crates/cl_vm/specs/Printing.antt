@@ -3,7 +3,9 @@ use Rattle.std.specs.Prelude.{◌≡◌, ℕ, ◌+◌, ◌<◌, ◌≤◌, ◌==
 use Rattle.cl_code.specs.Formats.{Piece, Byte, Decimal, Character, pieces, count_of, printed}
 use Rattle.cl_vm.specs.declared.output.PieceKind.{PieceKind}
 use Rattle.cl_vm.specs.declared.output.PieceKind.TheVariants as kinds
+use Rattle.cl_ground.specs.declared.limits.TheConstants.{MOST_PRINTED}
 
+-- a piece as the definitions have it
 abbrev pub plain_piece : PieceKind → Piece
 plain_piece (kinds.Byte byte) = Byte byte
 plain_piece kinds.Decimal = Decimal
@@ -16,6 +18,7 @@ kind_of a b =
     then (if b == 100 then kinds.Decimal else (if b == 99 then kinds.Character else (if b == 37 then kinds.Byte 37 else kinds.Decimal)))
     else kinds.Byte a
 
+-- how many bytes of a text a piece is, by its first two
 abbrev pub bytes_of : ℕ → ℕ → ℕ
 bytes_of a b =
     if a == 37
@@ -27,6 +30,7 @@ abbrev pub first_byte : List ℕ → ℕ
 first_byte [] = 0
 first_byte (a ∷ rest) = a
 
+-- the second byte, if there is one
 abbrev pub second_byte : List ℕ → ℕ
 second_byte [] = 0
 second_byte (a ∷ rest) = first_byte rest
@@ -37,8 +41,8 @@ IsFirst text piece count = (more : List Piece) × (pieces text ≡ Some (piece �
 
 -- bytes were added, or would be too many
 abbrev pub Added : List ℕ → Bool → List ℕ → List ℕ → Type 0
-Added old true bytes new = (new ≡ old ++ bytes) × (length new ≤ 65536)
-Added old false bytes new = (new ≡ old) × (65536 < length old + length bytes)
+Added old true bytes new = (new ≡ old ++ bytes) × (length new ≤ MOST_PRINTED)
+Added old false bytes new = (new ≡ old) × (MOST_PRINTED < length old + length bytes)
 
 -- what was printed of a text, whose pieces are these, with these numbers
 abbrev pub Prints : List ℕ → Bool → List ℕ → List ℕ → List ℤ → Type 0
@@ -48,6 +52,7 @@ Prints old done new text numbers = (all : List Piece) → pieces text ≡ Some a
 abbrev pub piece_bytes : PieceKind → List ℤ → List ℕ
 piece_bytes piece numbers = printed (plain_piece piece ∷ []) numbers
 
+-- how many numbers a piece takes
 abbrev pub takes_of : PieceKind → ℕ
 takes_of piece = count_of (plain_piece piece ∷ [])
 
@@ -57,7 +62,7 @@ pub record PrintsOn (before now text rest : List ℕ) (numbers left : List ℤ) 
   pub is : pieces rest ≡ Some more
   pub enough : count_of more ≤ length left
   pub same : (all : List Piece) → pieces text ≡ Some all → now ++ printed more left ≡ before ++ printed all numbers
-  pub few : length now ≤ 65536
+  pub few : length now ≤ MOST_PRINTED
 
 -- in the middle of a text: so many numbers were counted
 pub record CountsOn (text rest : List ℕ) (now : ℕ) : Type 0 where

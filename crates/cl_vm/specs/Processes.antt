@@ -3,7 +3,7 @@ use Rattle.std.specs.Prelude.{◌≡◌, ℕ, ◌+◌, ◌-◌, ◌<◌, ◌≤�
 use Rattle.cl_value.specs.Acts.{fits}
 use Rattle.cl_value.specs.LiveViews.{plain_part}
 use Rattle.cl_value.specs.Plain.{PlainPart, Ready, Call, PlainReply, PlainRequest, PlainStart, Main, Lives, Land}
-use Rattle.cl_value.specs.Room.{Room, HasRoom}
+use Rattle.cl_ground.specs.Room.{Room, HasRoom}
 use Rattle.cl_value.specs.Views.{plain_ask, plain_request}
 use Rattle.cl_value.specs.declared.process.Reply.{Reply}
 use Rattle.cl_value.specs.declared.process.Reply.TheVariants as replied
@@ -30,6 +30,7 @@ use Rattle.cl_vm.specs.declared.starting.Progress.TheVariants as reached
 use Rattle.cl_vm.specs.declared.vm.Demand.{Demand}
 use Rattle.cl_vm.specs.declared.vm.Demand.TheVariants as demands
 use Rattle.cl_vm.specs.declared.vm.Vm.{Vm}
+use Rattle.cl_ground.specs.declared.limits.TheConstants.{MOST_FIELDS}
 
 -- ---- what callers see
 
@@ -39,6 +40,7 @@ pub record Past : Type 0 where
   pub start : PlainStart
   pub told : Option (List PlainReply)
 
+-- the replies, if it has begun
 abbrev pub replies_in : Option (List PlainReply) → List PlainReply
 replies_in None = []
 replies_in (Some replies) = replies
@@ -47,6 +49,7 @@ replies_in (Some replies) = replies
 abbrev pub demand_now : PlainProgram → Past → CodeDemand
 demand_now p past = code_demand p past.steps past.start (replies_in past.told)
 
+-- one reply, or none
 abbrev pub reply_list : Option PlainReply → List PlainReply
 reply_list None = []
 reply_list (Some reply) = reply ∷ []
@@ -60,6 +63,7 @@ abbrev pub MayBeTold : PlainProgram → Past → Option (List PlainReply) → Re
 MayBeTold p past None reply = reply ≡ replied.Begin
 MayBeTold p past (Some replies) reply = (told : PlainReply) × (plain_reply reply ≡ Some told) × (q : PlainRequest) × ((demand_now p past).outcome ≡ Goes (Wants q)) × IsTrue (fits q.ask told)
 
+-- whether a process with this past may be told so
 abbrev pub FitsPast : PlainProgram → Past → Reply → Type 0
 FitsPast p past reply = MayBeTold p past past.told reply
 
@@ -67,14 +71,17 @@ FitsPast p past reply = MayBeTold p past past.told reply
 abbrev pub request_of : Vm → Option Request
 request_of vm = vm.buffers.request
 
+-- the tuple with which a process lands
 abbrev pub tuple_in : Ask → Option (Room Value)
 tuple_in (asks.Land tuple) = Some tuple
 tuple_in _ = None
 
+-- the tuple of a landing, if there is one
 abbrev pub values_in_request : Option Request → Option (Room Value)
 values_in_request None = None
 values_in_request (Some request) = tuple_in request.ask
 
+-- the values with which a machine finished
 abbrev pub values_of : Vm → Option (Room Value)
 values_of vm = values_in_request vm.buffers.request
 
@@ -104,6 +111,7 @@ abbrev pub PartFits : PlainProgram → PlainPart → Type 0
 PartFits p (Ready v) = Unit {0}
 PartFits p (Call k arguments gives) = ArgumentsFit p k arguments
 
+-- each of these calls can be done
 abbrev pub AllFit : PlainProgram → List PlainPart → Type 0
 AllFit p [] = Unit {0}
 AllFit p (part ∷ parts) = PartFits p part × AllFit p parts
@@ -113,9 +121,9 @@ pub record IsHeld (p : PlainProgram) (untold : ℕ) (vm : Vm) : Type 0 where
   pub fits : AllFit p (map plain_part vm.fields.items)
   pub ready : IsReady (widest_of p.functions) vm.buffers
   pub next : vm.next ≤ length vm.fields.items
-  pub short : length vm.fields.items ≤ 16
-  pub room : HasRoom 16 vm.values
-  pub few : untold + (length vm.values.items + (length vm.fields.items - vm.next)) ≤ 16
+  pub short : length vm.fields.items ≤ MOST_FIELDS
+  pub room : HasRoom MOST_FIELDS vm.values
+  pub few : untold + (length vm.values.items + (length vm.fields.items - vm.next)) ≤ MOST_FIELDS
 
 -- what is demanded before the next field
 abbrev pub before_field : PlainProgram → Vm → List PlainReply → CodeDemand
@@ -125,6 +133,7 @@ before_field p vm replies = between p vm.engine.depth (rest_of vm) vm.values.ite
 abbrev pub came_of : PlainProgram → Progress → Vm → List PlainReply → CodeDemand
 came_of p progress vm replies = came p vm.engine.depth vm.claimed vm.gives (rest_of vm) vm.values.items progress vm.engine replies
 
+-- what holds where the active function came to this
 abbrev pub SoundAt : PlainProgram → Progress → Vm → Type 0
 SoundAt p progress vm = IsSound p vm.engine.depth vm.claimed progress vm.engine
 
@@ -153,6 +162,7 @@ abbrev pub origin_of : PlainStart → Option ℕ
 origin_of Main = None
 origin_of (Lives site live depth) = Some site
 
+-- the fields of a live tuple; process 0 has none
 abbrev pub parts_in : PlainStart → List PlainPart
 parts_in Main = []
 parts_in (Lives site live depth) = live
@@ -180,6 +190,7 @@ pub record HasHeard (p : PlainProgram) (steps : ℕ) (start : PlainStart) (repli
   pub demand : Demand
   pub stood : Stood p (λ more. code_demand p steps start (replies ++ more)) demand vm
 
+-- it has done nothing, or was told these replies
 abbrev pub HasBeenTold : PlainProgram → ℕ → PlainStart → Option (List PlainReply) → Vm → Type 0
 HasBeenTold p steps start None vm = IsNew p steps start vm
 HasBeenTold p steps start (Some replies) vm = HasHeard p steps start replies vm
@@ -199,6 +210,7 @@ abbrev pub EntersAt : Option ℕ → PlainProgram → (List PlainReply → CodeD
 EntersAt None p demanded vm = (vm.fields.items ≡ []) × (vm.values.items ≡ []) × ((replies : List PlainReply) → demanded replies ≡ before_main p vm replies)
 EntersAt (Some site) p demanded vm = (vm.next < length vm.fields.items) × ((replies : List PlainReply) → demanded replies ≡ before_field p vm replies)
 
+-- where the cells of the globals are claimed, and nothing more is done
 pub record HasClaimed (p : PlainProgram) (demanded : List PlainReply → CodeDemand) (vm : Vm) : Type 0 where
   pub held : IsHeld p 0 vm
   pub idle : IsIdle p vm.engine

@@ -15,18 +15,22 @@ use Rattle.cl_vm.specs.Engine.{Behind, onward, call_traps, Led}
 use Rattle.cl_vm.specs.declared.engine.Engine.{Engine}
 use Rattle.cl_vm.specs.declared.engine.Flow.{Flow}
 use Rattle.cl_vm.specs.declared.engine.Flow.TheVariants as flows
+use Rattle.cl_ground.specs.declared.limits.TheConstants.{MOST_ACTIVE, MOST_CELLS, MOST_PRINTED}
 
 -- ---- where it is
 
+-- the functions that wait, as positions have them
 abbrev pub callers_of : List Frame → List Caller
 callers_of [] = []
 callers_of (f ∷ fs) = record { place = f.place; stack = f.stack } ∷ callers_of fs
 
+-- where an engine stands
 abbrev pub position_of : Engine → Position
 position_of e = record { callers = callers_of e.memory.frames; place = e.place; stack = e.memory.stack }
 
 -- ---- whatever it is told, its code isn't wrong
 
+-- its code is never wrong, whatever it is told and whatever is done with its result
 pub record IsSafe (p : PlainProgram) (e : Engine) : Type 0 where
   pub behind : Behind
   pub halts : (s : State Cells) → (end : State Cells) × (behind None s ≡ Gives (None, end))
@@ -39,10 +43,12 @@ abbrev pub stacked : List Frame → ℕ
 stacked [] = 0
 stacked (f ∷ fs) = length f.stack + stacked fs
 
+-- how many cells the functions have that wait
 abbrev pub celled : List Frame → ℕ
 celled [] = 0
 celled (f ∷ fs) = length f.cells + celled fs
 
+-- none of the functions that wait has more numbers than the most
 abbrev pub AreLow : ℕ → List Frame → Type 0
 AreLow most [] = Unit {0}
 AreLow most (f ∷ fs) = (length f.stack ≤ most) × AreLow most fs
@@ -52,6 +58,7 @@ abbrev pub AreSized : ℕ → List Frame → ℕ → ℕ → Type 0
 AreSized most [] size total = size ≤ total + most
 AreSized most (f ∷ fs) size total = (size ≤ f.claimed + most) × (f.claimed ≤ total) × AreSized most fs (length f.cells) (total - f.claimed)
 
+-- there is room for the numbers, cells, frames and bytes of any function that is to come
 pub record IsRoomy (p : PlainProgram) (e : Engine) : Type 0 where
   -- the highest stack, and the most temporaries
   pub highest : ℕ
@@ -59,14 +66,15 @@ pub record IsRoomy (p : PlainProgram) (e : Engine) : Type 0 where
   pub stacks : (k : ℕ) (f : PlainFunction) → slice_get p.functions k ≡ Some f → f.stack ≤ highest
   pub temporaries : (k : ℕ) (f : PlainFunction) → slice_get p.functions k ≡ Some f → f.temporaries ≤ most
   pub low : AreLow highest e.memory.frames
-  pub space : e.memory.space + stacked e.memory.frames ≡ 256 * highest
+  pub space : e.memory.space + stacked e.memory.frames ≡ MOST_ACTIVE * highest
   pub frames : e.memory.frame_room + length e.memory.frames ≡ 255
   pub total : length e.memory.globals ≤ e.cells
-  pub limit : e.cells ≤ 65536
+  pub limit : e.cells ≤ MOST_CELLS
   pub sized : AreSized most e.memory.frames (length e.memory.frame) (e.cells - length e.memory.globals)
-  pub output : (65536 ≤ vec_capacity e.output) × (length e.output.items ≤ 65536)
-  pub cells : e.memory.cell_room + (length e.memory.globals + (length e.memory.frame + celled e.memory.frames)) ≡ 65536 + 256 * most
+  pub output : (MOST_PRINTED ≤ vec_capacity e.output) × (length e.output.items ≤ MOST_PRINTED)
+  pub cells : e.memory.cell_room + (length e.memory.globals + (length e.memory.frame + celled e.memory.frames)) ≡ MOST_CELLS + MOST_ACTIVE * most
 
+-- an engine that can go on
 pub record Runs (p : PlainProgram) (e : Engine) : Type 0 where
   pub safe : IsSafe p e
   pub reached : Reached p e.depth (position_of e)
@@ -91,6 +99,7 @@ pub record IsBased (deep claimed : ℕ) (e : Engine) : Type 0 where
   pub cells : e.cells ≡ base + claims e.memory.frames
   pub enough : length e.memory.globals + claimed ≤ base
 
+-- it is based so, unless it stopped
 abbrev pub BasedOn : ℕ → ℕ → Flow → Engine → Type 0
 BasedOn depth claimed (flows.Stop t) e = Unit {0}
 BasedOn depth claimed _ e = IsBased depth claimed e
@@ -99,12 +108,15 @@ BasedOn depth claimed _ e = IsBased depth claimed e
 abbrev pub tick_bit : PlainProgram → ℕ → ℕ
 tick_bit p place = if is_tick (slice_get p.code place) then 0 else 1
 
+-- a number that falls with each step: ticks weigh most, then frames, then the code ahead
 abbrev pub distance : ℕ → ℕ → ℕ → ℕ → ℕ → ℕ
 distance length ticks bit frames place = (2 * ticks + bit) * (257 * suc length) + (frames * suc length + (suc length - place))
 
+-- how far an engine is from its end
 abbrev pub distance_of : PlainProgram → Engine → ℕ
 distance_of p e = distance (length p.code) e.ticks (tick_bit p e.place) (length e.memory.frames) e.place
 
+-- a step that leads on brings it nearer to its end
 abbrev pub Falls : PlainProgram → Engine → Flow → Engine → Type 0
 Falls p old flows.On new = distance_of p new < distance_of p old
 Falls p old _ new = Unit {0}
@@ -136,6 +148,7 @@ abbrev pub HasElement : ℕ → ℕ → Option ℤ → ℕ → Type 0
 HasElement base count None length = Unit {0}
 HasElement base count (Some x) length = (k : ℕ) → index_of x count ≡ Ok k → base + k < length
 
+-- the cells that an instruction names are there
 abbrev pub HasCells : Instr → Engine → Type 0
 HasCells (LoadLocal k) e = k < length e.memory.frame
 HasCells (LoadGlobal k) e = k < length e.memory.globals
@@ -161,9 +174,10 @@ pub record CanPrint (p : PlainProgram) (format : ℕ) (e : Engine) : Type 0 wher
   pub all : List Piece
   pub parts : pieces text ≡ Some all
   pub enough : count_of all ≤ length e.memory.stack
-  pub room : 65536 ≤ vec_capacity e.output
-  pub few : length e.output.items ≤ 65536
+  pub room : MOST_PRINTED ≤ vec_capacity e.output
+  pub few : length e.output.items ≤ MOST_PRINTED
 
+-- the function that an instruction calls, or the text that it prints, is there
 abbrev pub HasFunction : PlainProgram → Instr → Engine → Type 0
 HasFunction p (Call k) e = CanCall p k e
 HasFunction p (Print format) e = CanPrint p format e
@@ -175,4 +189,4 @@ pub record HasNeeds (p : PlainProgram) (i : Instr) (e : Engine) : Type 0 where
   pub space : (length e.memory.stack - pops p i) + pushes p i ≤ e.memory.space
   pub cells : HasCells i e
   pub function : HasFunction p i e
-  pub limit : e.cells ≤ 65536
+  pub limit : e.cells ≤ MOST_CELLS

@@ -3,7 +3,7 @@
 ghost use Rattle.std.specs.Prelude.{◌≡◌, ◌<◌, ◌≤◌, drop, length, List, [], map, OnOk, slice_get};
 ghost use Rattle.cl_value.specs.declared.value.Value.{Value as AnyValue};
 ghost use Rattle.cl_value.specs.LiveViews.{plain_part};
-ghost use Rattle.cl_value.specs.Room.{HasRoom, capacity_of};
+ghost use Rattle.cl_ground.specs.Room.{HasRoom, capacity_of};
 ghost use Rattle.cl_code.specs.Plain.{PlainProgram, plain_function};
 ghost use Rattle.cl_code.specs.Sites.{as_values, fields_of, first_or_zero, parameters_or_none, parts_of, places, slots_of, values_of};
 ghost use Rattle.cl_vm.specs.Asking.{CallFilled, Filled};
@@ -11,8 +11,9 @@ ghost use Rattle.cl_vm.specs.Parts.{AreWide, KeepsLists, call_first, widest_of};
 
 use crate::values::as_value;
 use cl_code::Function;
+use cl_ground::Items;
 use cl_sig::Mark;
-use cl_value::{FieldType, Items, LiveField, Slot, Trap, Value};
+use cl_value::{FieldType, LiveField, Slot, Trap, Value};
 
 // The first number, or 0; and those behind it.
 fn first_of(numbers: &[i64]) -> (i64, &[i64])

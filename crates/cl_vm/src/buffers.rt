@@ -1,11 +1,6 @@
-use cl_value::{Ask, Items, LiveField, Request, Slot, Value};
+use cl_ground::Items;
+use cl_value::{Ask, LiveField, Request, Slot, Value};
 use std::alloc::Global;
-
-/// How many fields an operation has at most.
-pub const MOST_FIELDS: usize = 16;
-
-/// How many `eval`s may lead to a process.
-pub const DEEPEST: u32 = 64;
 
 /// The request at which a process stands, and the lists into which the next one is filled. They are made before the
 /// process begins, so that asking takes no memory.

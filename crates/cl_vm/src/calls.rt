@@ -1,19 +1,15 @@
 //! What instructions do with ticks and functions. (Limits: this project.)
 
 ghost use Rattle.std.specs.Prelude.{◌≡◌, ◌<◌, ◌≤◌, ◌+◌, ◌^◌, length, None};
+ghost use Rattle.cl_ground.specs.declared.limits.TheConstants.{MOST_CELLS};
 ghost use Rattle.cl_code.specs.Plain.{plain_function};
 ghost use Rattle.cl_code.specs.Rules.{frame_size};
 ghost use Rattle.cl_vm.specs.Engine.{Calls, Returns, Ticks, call_traps};
 
 use crate::{Engine, Flow};
 use cl_code::Function;
+use cl_ground::{MOST_ACTIVE, MOST_CELLS};
 use cl_value::Trap;
-
-/// How many functions may be active.
-pub const MOST_ACTIVE: usize = 256;
-
-/// How many cells may be in use.
-pub const MOST_CELLS: usize = 65_536;
 
 impl Engine {
     /// Counts a tick.
@@ -32,7 +28,7 @@ impl Engine {
     pub(crate) fn call(&mut self, function: &Function) -> Flow
         requires arguments { length function.now.parameters.items ≤ length self.old.memory.stack }
         requires place { self.old.place < 2 ^ 32 }
-        requires limit { self.old.cells ≤ 65536 }
+        requires limit { self.old.cells ≤ MOST_CELLS }
         requires roomy { call_traps (plain_function function.now) self.old ≡ None → (length function.now.parameters.items ≤ frame_size (plain_function function.now)) × (frame_size (plain_function function.now) ≤ self.old.memory.cell_room) × (0 < self.old.memory.frame_room) }
         ensures { Calls (plain_function function.now) self.old result self.new }
     {

@@ -1,4 +1,4 @@
-use cl_value::NoMemory;
+use cl_ground::NoMemory;
 use std::alloc::Global;
 use std::marker::Model;
 

@@ -1,6 +1,7 @@
 //! Functions that nothing waits for: the main function, and those of the calls in a live tuple.
 
 ghost use Rattle.std.specs.Prelude.{◌≡◌, ◌+◌, ◌<◌, ◌≤◌, ◌∷◌, length, map, slice_get, ℕ, List, Some};
+ghost use Rattle.cl_ground.specs.declared.limits.TheConstants.{MOST_CELLS};
 ghost use Rattle.cl_code.specs.Plain.{plain_function, plain_program};
 ghost use Rattle.cl_code.specs.Rules.{frame_size};
 ghost use Rattle.cl_model.specs.Numbers.{number};
@@ -13,11 +14,11 @@ ghost use Rattle.cl_vm.specs.Memory.{with_added};
 ghost use Rattle.cl_vm.specs.Outermost.{ArgumentsFit, ClaimsGlobals, EntersFirst, IsFine, IsIdle, IsSound, behind_call, between, came, claimed_at, entering};
 ghost use Rattle.cl_vm.specs.Runs.{IsBased, Runs};
 
-use crate::calls::MOST_CELLS;
 use crate::hearing::number_of;
 use crate::values::result_as;
 use crate::{Engine, Flow, Memory, Progress};
 use cl_code::{Function, Program};
+use cl_ground::MOST_CELLS;
 use cl_value::{FieldType, Trap, Value};
 
 // Adds values as cells of the active function, in room that was made before.
@@ -68,9 +69,9 @@ impl Engine {
 
     /// Enters a function with these arguments, where none is active.
     pub(crate) fn enter_first(&mut self, function: &Function, arguments: &[Value]) -> Flow
-        requires limit { self.old.cells ≤ 65536 }
-        requires arguments { self.old.cells + function.now.cells ≤ 65536 → length arguments.now ≤ frame_size (plain_function function.now) }
-        requires room { self.old.cells + function.now.cells ≤ 65536 → frame_size (plain_function function.now) ≤ self.old.memory.cell_room + length self.old.memory.frame }
+        requires limit { self.old.cells ≤ MOST_CELLS }
+        requires arguments { self.old.cells + function.now.cells ≤ MOST_CELLS → length arguments.now ≤ frame_size (plain_function function.now) }
+        requires room { self.old.cells + function.now.cells ≤ MOST_CELLS → frame_size (plain_function function.now) ≤ self.old.memory.cell_room + length self.old.memory.frame }
         ensures { EntersFirst (plain_function function.now) (map number arguments.now) self.old result self.new }
     {
         let cells = function.cells as usize;

@@ -1,14 +1,13 @@
 //! What a process prints. (ISO/IEC 9899:1999, 7.19.6.1.)
 
 ghost use Rattle.std.specs.Prelude.{◌≡◌, ◌<◌, ◌≤◌, List, length, Some, vec_capacity};
+ghost use Rattle.cl_ground.specs.declared.limits.TheConstants.{MOST_PRINTED};
 ghost use Rattle.cl_code.specs.Formats.{Piece, count_of, pieces};
 ghost use Rattle.cl_vm.specs.Printing.{Added, Prints, bytes_of, first_byte, kind_of, piece_bytes, second_byte, takes_of};
 
 use crate::arithmetic::byte_of;
+use cl_ground::MOST_PRINTED;
 use itoa::Buffer;
-
-/// How many bytes a process prints at most.
-pub const MOST_PRINTED: usize = 65_536;
 
 /// A piece of the text of a `printf`.
 #[derive(Clone, Copy)]
@@ -59,8 +58,8 @@ fn piece_of(a: u8, b: u8) -> (PieceKind, usize)
 
 // Adds bytes, into room that was made before, unless they would be too many.
 fn add(output: &mut Vec<u8>, bytes: &[u8]) -> bool
-    requires room { 65536 ≤ vec_capacity output.old }
-    requires few { length output.old.items ≤ 65536 }
+    requires room { MOST_PRINTED ≤ vec_capacity output.old }
+    requires few { length output.old.items ≤ MOST_PRINTED }
     ensures added { Added output.old.items result bytes.now output.new.items }
     ensures capacity { vec_capacity output.new ≡ vec_capacity output.old }
 {
@@ -86,8 +85,8 @@ fn takes(piece: PieceKind) -> usize
 
 // Prints a piece, whose number is the first of these.
 fn print_piece(output: &mut Vec<u8>, piece: PieceKind, numbers: &[i64]) -> bool
-    requires room { 65536 ≤ vec_capacity output.old }
-    requires few { length output.old.items ≤ 65536 }
+    requires room { MOST_PRINTED ≤ vec_capacity output.old }
+    requires few { length output.old.items ≤ MOST_PRINTED }
     requires numbers { takes_of piece ≤ length numbers.now }
     ensures added { Added output.old.items result (piece_bytes piece numbers.now) output.new.items }
     ensures capacity { vec_capacity output.new ≡ vec_capacity output.old }
@@ -106,8 +105,8 @@ fn print_piece(output: &mut Vec<u8>, piece: PieceKind, numbers: &[i64]) -> bool
 /// nothing and answers `false`.
 pub fn print_text(output: &mut Vec<u8>, text: &[u8], numbers: &[i64]) -> bool
     requires right { (all : List Piece) × (pieces text.now ≡ Some all) × (count_of all ≤ length numbers.now) }
-    requires room { 65536 ≤ vec_capacity output.old }
-    requires few { length output.old.items ≤ 65536 }
+    requires room { MOST_PRINTED ≤ vec_capacity output.old }
+    requires few { length output.old.items ≤ MOST_PRINTED }
     ensures prints { Prints output.old.items result output.new.items text.now numbers.now }
     ensures capacity { vec_capacity output.new ≡ vec_capacity output.old }
 {

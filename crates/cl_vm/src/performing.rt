@@ -1,5 +1,6 @@
 //! What an engine does at an operation. (The operations: Gelernter 1985.)
 
+ghost use Rattle.cl_ground.specs.declared.limits.TheConstants.{MOST_FIELDS};
 ghost use Rattle.std.specs.Prelude.{◌≡◌, ◌*◌, ◌<◌, ◌≤◌, IsTrue, OnOk, Some, length, map, slice_get};
 ghost use Rattle.std.specs.List.{list_all};
 ghost use Rattle.cl_code.specs.Plain.{PlainProgram, plain_function, plain_program};
@@ -23,7 +24,7 @@ use cl_value::{Reply, Trap};
 
 // How many numbers these fields take.
 fn count_of(functions: &[Function], marks: &[Mark], calls: &[Option<u32>]) -> usize
-    requires few { length marks.now ≤ 16 }
+    requires few { length marks.now ≤ MOST_FIELDS }
     requires short { IsTrue (list_all function_is_short (map plain_function functions.now)) }
     ensures value { (p : PlainProgram) → p.functions ≡ map plain_function functions.now → result ≡ takes p (places marks.now calls.now) }
     ensures few { result ≤ length marks.now * 4294967296 }

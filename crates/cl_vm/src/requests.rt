@@ -1,10 +1,11 @@
 //! How a request is filled into lists that were made before. (The operations: Gelernter 1985.)
 
+ghost use Rattle.cl_ground.specs.declared.limits.TheConstants.{MOST_FIELDS};
 ghost use Rattle.std.specs.Prelude.{◌≡◌, ◌+◌, ◌<◌, ◌≤◌, false, length, map, ℕ, IfOk, IsTrue, List, [], None, OnOk, Some};
 ghost use Rattle.std.specs.List.{list_all};
 ghost use Rattle.cl_value.specs.LiveViews.{plain_part};
 ghost use Rattle.cl_value.specs.Plain.{Land};
-ghost use Rattle.cl_value.specs.Room.{HasRoom, capacity_of};
+ghost use Rattle.cl_ground.specs.Room.{HasRoom, capacity_of};
 ghost use Rattle.cl_value.specs.Views.{plain_ask, plain_request};
 ghost use Rattle.cl_value.specs.declared.request.Request.{Request as AnyRequest};
 ghost use Rattle.cl_code.specs.Plain.{PlainProgram, plain_function};
@@ -15,12 +16,11 @@ ghost use Rattle.cl_vm.specs.Buffers.{AskedAt, HasLists, IsCleared, IsReady, Lan
 ghost use Rattle.cl_vm.specs.Parts.{AreWide, KeepsLists, lists_of, widest_of};
 
 use crate::asking::{add_parts, add_slots, add_values};
-use crate::buffers::{Buffers, DEEPEST, MOST_FIELDS};
+use crate::buffers::Buffers;
 use cl_code::Function;
+use cl_ground::{Items, MOST_DEPTH, MOST_FIELDS, NoMemory};
 use cl_sig::{Kind, Mark, Signature};
-use cl_value::{
-    Ask, Items, Live, LiveField, NoMemory, Request, Slot, Template, Trap, Tuple, Value,
-};
+use cl_value::{Ask, Live, LiveField, Request, Slot, Template, Trap, Tuple, Value};
 use std::alloc::Global;
 use std::mem;
 
@@ -64,12 +64,12 @@ fn tuple_of(
     marks: &[Mark],
     numbers: &[i64],
 ) -> Result<Tuple, Trap>
-    requires room { HasRoom 16 values.old }
+    requires room { HasRoom MOST_FIELDS values.old }
     requires some { 0 < length marks.now }
-    requires few { length marks.now ≤ 16 }
+    requires few { length marks.now ≤ MOST_FIELDS }
     requires evaluated { IsTrue (list_all is_evaluated marks.now) }
     ensures told { (p : PlainProgram) → Reads values_of (fields_of p (places marks.now []) numbers.now) result }
-    ensures room { IfOk result (HasRoom 16) }
+    ensures room { IfOk result (HasRoom MOST_FIELDS) }
 {
     values.clear();
     add_values(values, marks, numbers)?;
@@ -84,12 +84,12 @@ fn template_of(
     marks: &[Mark],
     numbers: &[i64],
 ) -> Result<Template, Trap>
-    requires room { HasRoom 16 slots.old }
+    requires room { HasRoom MOST_FIELDS slots.old }
     requires some { 0 < length marks.now }
-    requires few { length marks.now ≤ 16 }
+    requires few { length marks.now ≤ MOST_FIELDS }
     requires receivable { IsTrue (list_all is_receivable marks.now) }
     ensures told { (p : PlainProgram) → Reads slots_of (fields_of p (places marks.now []) numbers.now) result }
-    ensures room { IfOk result (HasRoom 16) }
+    ensures room { IfOk result (HasRoom MOST_FIELDS) }
 {
     slots.clear();
     add_slots(slots, marks, numbers)?;
@@ -107,12 +107,12 @@ fn live_of(
     calls: &[Option<u32>],
     numbers: &[i64],
 ) -> Result<Live, Trap>
-    requires room { HasRoom 16 fields.old }
+    requires room { HasRoom MOST_FIELDS fields.old }
     requires empty { fields.old.items ≡ [] }
-    requires lists { 16 ≤ length spare.old.items }
+    requires lists { MOST_FIELDS ≤ length spare.old.items }
     requires wide { AreWide (widest_of (map plain_function functions.now)) spare.old.items }
     requires some { 0 < length marks.now }
-    requires few { length marks.now ≤ 16 }
+    requires few { length marks.now ≤ MOST_FIELDS }
     requires evaluated { IsTrue (list_all is_evaluated marks.now) }
     ensures told { (p : PlainProgram) → p.functions ≡ map plain_function functions.now → ReadsParts (fields_of p (places marks.now calls.now) numbers.now) result }
     ensures room { IfOk result (λ live. KeepsLists (widest_of (map plain_function functions.now)) fields.old live spare.old spare.new) }
@@ -187,7 +187,7 @@ impl Buffers {
         requires cleared { IsCleared (widest_of (map plain_function functions.now)) self.old }
         requires plain { is_eval kind ≡ false → places marks.now calls.now ≡ places marks.now [] }
         requires some { 0 < length marks.now }
-        requires few { length marks.now ≤ 16 }
+        requires few { length marks.now ≤ MOST_FIELDS }
         requires evaluated { may_receive kind ≡ false → IsTrue (list_all is_evaluated marks.now) }
         requires receivable { IsTrue (list_all is_receivable marks.now) }
         ensures asked { (p : PlainProgram) → p.functions ≡ map plain_function functions.now → AskedAt depth kind (fields_of p (places marks.now calls.now) numbers.now) result }
@@ -212,7 +212,7 @@ impl Buffers {
                     calls,
                     numbers,
                 )?;
-                if depth >= DEEPEST {
+                if depth >= MOST_DEPTH {
                     return Err(Trap::EvalDepth);
                 }
                 Ok(Ask::Eval(live))
@@ -233,7 +233,7 @@ impl Buffers {
         requires ready { IsReady (widest_of (map plain_function functions.now)) self.old }
         requires plain { is_eval signature.now.kind ≡ false → places signature.now.fields.items calls.now ≡ places signature.now.fields.items [] }
         requires some { 0 < length signature.now.fields.items }
-        requires few { length signature.now.fields.items ≤ 16 }
+        requires few { length signature.now.fields.items ≤ MOST_FIELDS }
         requires evaluated { may_receive signature.now.kind ≡ false → IsTrue (list_all is_evaluated signature.now.fields.items) }
         requires receivable { IsTrue (list_all is_receivable signature.now.fields.items) }
         ensures asked { (p : PlainProgram) → p.functions ≡ map plain_function functions.now → Stands depth signature.now.kind site (fields_of p (places signature.now.fields.items calls.now) numbers.now) result self.new }
@@ -250,7 +250,7 @@ impl Buffers {
     pub(crate) fn land(&mut self, site: u32, values: &[Value])
         requires ready { (widest : ℕ) × IsReady widest self.old }
         requires some { 0 < length values.now }
-        requires few { length values.now ≤ 16 }
+        requires few { length values.now ≤ MOST_FIELDS }
         ensures { Lands site values.now self.new }
     {
         self.clear();

@@ -1,6 +1,7 @@
 //! How a process goes from field to field of its live tuple, and from operation to operation. (Live tuples: Gelernter
 //! 1985.)
 
+ghost use Rattle.cl_ground.specs.declared.limits.TheConstants.{MOST_FIELDS};
 ghost use Rattle.std.specs.Prelude.{◌≡◌, ◌<◌, ◌≤◌, [], length, slice_get, suc, ℕ, List, Some};
 ghost use Rattle.cl_code.specs.Plain.{PlainFunction, PlainProgram, plain_program};
 ghost use Rattle.cl_code.specs.Process.{CodeDemand, code_demand};
@@ -85,7 +86,7 @@ impl Vm {
     fn finish(&mut self) -> Demand
         requires ready { (widest : ℕ) × IsReady widest self.old.buffers }
         requires some { 0 < length self.old.values.items }
-        requires few { length self.old.values.items ≤ 16 }
+        requires few { length self.old.values.items ≤ MOST_FIELDS }
         requires all { length self.old.fields.items ≤ self.old.next }
         ensures stood { (p : PlainProgram) → Stood p (before_field p self.old) result self.new }
         ensures same { self.new.origin ≡ self.old.origin }

@@ -1,15 +1,15 @@
 //! An engine before its process begins. (Limits: this project.)
 
 ghost use Rattle.std.specs.Prelude.{◌≡◌, ◌≤◌, IfOk, length, map};
+ghost use Rattle.cl_ground.specs.declared.limits.TheConstants.{MOST_CELLS};
 ghost use Rattle.cl_code.specs.Plain.{plain_function, plain_program};
 ghost use Rattle.cl_vm.specs.Begins.{IsFresh, highest_of, most_of};
 ghost use Rattle.cl_vm.specs.Parts.{widest_of};
 
-use crate::calls::{MOST_ACTIVE, MOST_CELLS};
-use crate::output::MOST_PRINTED;
 use crate::{Engine, Memory};
 use cl_code::{Function, Program};
-use cl_value::{NoMemory, Trap, Value};
+use cl_ground::{MOST_ACTIVE, MOST_CELLS, MOST_PRINTED, NoMemory};
+use cl_value::{Trap, Value};
 use std::alloc::Global;
 
 /// What a function came to that nothing waits for.
@@ -55,8 +55,8 @@ pub fn widest_of(functions: &[Function]) -> usize
 
 // The globals, where a process may have so many.
 fn globals_of(program: &Program) -> &[i64]
-    ensures few { length result.now ≤ 65536 }
-    ensures same { length (plain_program program.now).globals ≤ 65536 → result.now ≡ (plain_program program.now).globals }
+    ensures few { length result.now ≤ MOST_CELLS }
+    ensures same { length (plain_program program.now).globals ≤ MOST_CELLS → result.now ≡ (plain_program program.now).globals }
 {
     let parts = program.parts();
     let globals = parts.globals.as_slice();

@@ -1,6 +1,7 @@
 //! One instruction after another. (This project.)
 
 ghost use Rattle.std.specs.Prelude.{◌≡◌, ◌<◌, ◌≤◌, ◌+◌, ◌-◌, ◌^◌, length, slice_get, Some};
+ghost use Rattle.cl_ground.specs.declared.limits.TheConstants.{MOST_CELLS};
 ghost use Rattle.cl_code.specs.Plain.{plain_program};
 ghost use Rattle.cl_code.specs.Sites.{parameters_at};
 ghost use Rattle.cl_code.specs.Valid.{Valid};
@@ -33,7 +34,7 @@ impl Engine {
         requires function { CanCall (plain_program program.now) k (record self.old { place = self.old.place - 1 }) }
         requires operands { length (parameters_at (plain_program program.now) k) ≤ length self.old.memory.stack }
         requires place { self.old.place < 2 ^ 32 }
-        requires limit { self.old.cells ≤ 65536 }
+        requires limit { self.old.cells ≤ MOST_CELLS }
         ensures { Acted (plain_program program.now) (Instr.Call k) self.old result self.new }
     {
         let functions = program.functions();

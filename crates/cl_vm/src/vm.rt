@@ -1,10 +1,8 @@
-use crate::buffers::MOST_FIELDS;
 use crate::starting::widest_of;
 use crate::{Buffers, Engine};
 use cl_code::{Program, each_process_is_right};
-use cl_value::{
-    Ask, FieldType, Items, Limits, LiveField, NoMemory, Reply, Request, Start, Trap, Tuple, Value,
-};
+use cl_ground::{Items, MOST_FIELDS, NoMemory};
+use cl_value::{Ask, FieldType, Limits, LiveField, Reply, Request, Start, Trap, Tuple, Value};
 use std::alloc::Global;
 
 /// What a process demands.
@@ -48,6 +46,7 @@ impl Vm {
     ghost use Rattle.cl_code.specs.Starts.{start_fits};
     ghost use Rattle.cl_vm.specs.Begins.{IsFresh};
     ghost use Rattle.cl_vm.specs.Processes.{AllFit, Answers, FitsPast, IsHeld, Past, StandsFor, demand_now, printed_by, request_of, told_more, values_of};
+    ghost use Rattle.cl_ground.specs.declared.limits.TheConstants.{MOST_FIELDS};
 
     /// A machine for a process of the program that begins so, with room for all that it will need. The ticks are those
     /// of the limits. `NoMemory` comes where the allocator refused the room.
@@ -80,7 +79,7 @@ impl Vm {
         depth: u32,
     ) -> Result<Vm, NoMemory>
         requires fits { AllFit (plain_program program.now) (map plain_part fields.items) }
-        requires few { length fields.items ≤ 16 }
+        requires few { length fields.items ≤ MOST_FIELDS }
         ensures fresh { IfOk result (λ vm. IsFresh (plain_program program.now) steps depth vm.engine) }
         ensures held { IfOk result (IsHeld (plain_program program.now) 0) }
         ensures same { IfOk result (λ vm. (vm.origin ≡ origin) × (vm.fields ≡ fields) × (vm.next ≡ 0) × (vm.values.items ≡ [])) }

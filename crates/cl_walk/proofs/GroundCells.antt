@@ -12,9 +12,6 @@ use Rattle.cl_walk.proofs.GroundLists.{at_index, drop_end}
 pub capped_small : (n : ℕ) → n < 2 ^ 64 → capped n ≡ n
 capped_small n h = grind (arith, nat_tests)
 
-pub capped_great : (n : ℕ) → 2 ^ 64 ≤ n → capped n ≡ 2 ^ 64 - 1
-capped_great n h = grind (arith, nat_tests)
-
 pub capped_is : (n : ℕ) → capped n ≡ min n (2 ^ 64 - 1)
 capped_is n = grind (arith, nat_tests)
 

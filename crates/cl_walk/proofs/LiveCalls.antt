@@ -8,7 +8,7 @@ use Rattle.cl_value.specs.declared.live.LiveField.TheVariants as live
 use Rattle.cl_value.specs.LiveViews.{plain_part}
 use Rattle.cl_value.specs.Plain.{PlainPart}
 use Rattle.cl_value.specs.Plain as plain
-use Rattle.cl_value.specs.Room.{Room}
+use Rattle.cl_ground.specs.Room.{Room}
 use Rattle.cl_ast.specs.declared.tree.TypeName.TheVariants as types
 use Rattle.cl_ast.specs.declared.tree.Expr.{Expr}
 use Rattle.cl_ast.specs.declared.tree.Call.{Call, out-Call}

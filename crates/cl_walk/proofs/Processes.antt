@@ -9,7 +9,7 @@ use Rattle.cl_value.specs.declared.live.LiveField.{LiveField}
 use Rattle.cl_value.specs.declared.live.LiveField.TheVariants as fields
 use Rattle.cl_value.specs.declared.process.Start.{Start}
 use Rattle.cl_value.specs.declared.process.Start.TheVariants as starts
-use Rattle.cl_value.specs.Room.{Room}
+use Rattle.cl_ground.specs.Room.{Room}
 use Rattle.cl_value.specs.Plain.{PlainPart, PlainStart}
 use Rattle.cl_value.specs.Views.{plain_start}
 use Rattle.cl_value.specs.LiveViews.{plain_part, plain_live}

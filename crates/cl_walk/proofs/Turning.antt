@@ -23,9 +23,6 @@ module _ (one : Does meaning.Exit → Does meaning.Exit) (many : ℕ → Does me
   abbrev pub AtHead : Point → ℕ → Point → Type 0
   AtHead from n now = Walks (whole from.shown.state) (log_at from) (many n now.shown.state) (log_at now)
 
-  leaves_by : (from now : Point) (again : Does meaning.Exit) (result : Result (Option Exit) Stop) (to : Point) → Walks (whole from.shown.state) (log_at from) (one again now.shown.state) (log_at now) → Turns (one again) again now result to → (exit : Exit) → result ≡ Ok (Some exit) → Comes exit_of whole from (Ok exit) to
-  leaves_by from now again result to w v exit is = walks_on w (subst (λ r. Turns (one again) again now r to) is v)
-
   stops_by : (from now : Point) (again : Does meaning.Exit) (to : Point) → Walks (whole from.shown.state) (log_at from) (one again now.shown.state) (log_at now) → (stop : Stop) → Turns (one again) again now (Err stop) to → Comes exit_of whole from (Err stop) to
   stops_by from now again to w stop v = comes_past exit_of whole (one again) from now (Err stop) to w v
 

@@ -82,9 +82,6 @@ abbrev pub Reaches : {A : Type 0} → List (Does A) → Point → List A → Lis
 Reaches all from given left now = Walks (each all from.shown.state) (log_at from) (each_onto given left now.shown.state) (log_at now)
 
 module _ {A : Type 0} (all : List (Does A)) (from : Point) where
-  pub each_begins : Reaches all from [] all from
-  each_begins = here
-
   pub each_next : {B : Type 0} (view : B → A) (given : List A) (p : Does A) (left : List (Does A)) (now next : Point) (b : B) → Reaches all from given (p ∷ left) now → Comes view p now (Ok b) next → Reaches all from (given ++ view b ∷ []) left next
   unfolding each_onto ◌>>=◌ then_do
   each_next view given p left now next b reaches v = walks_on reaches (walks_under (λ a. each_onto (given ++ a ∷ []) left) v)
@@ -102,6 +99,3 @@ module _ {A : Type 0} (all : List (Does A)) (from : Point) where
 module _ {A B : Type 0} (view : B → A) (p : Does A) (from to : Point) (result : Result B Stop) where
   pub leaves : (stop : Stop) → IsErrAnd result (λ e. e ≡ stop) → Comes view p from (Err stop) to → Comes view p from result to
   leaves stop h w = let e = err_from_is_err_and result h in rw (e.1, e.2) w
-
-  pub leaves_without : IsErrAnd result (λ e. e ≡ NoMemory) → Comes view p from result to
-  leaves_without h = leaves NoMemory h tt

@@ -21,5 +21,6 @@ calls_in on = calls (fixed_in on) on.calls
 abbrev pub around : Context → Surroundings
 around on = surroundings (fixed_in on) (calls_in on)
 
+-- the length of an array of the text
 abbrev pub length_in : Context → Size → ℕ
 length_in on = (fixed_in on).length_of

@@ -1,7 +1,7 @@
 -- How a walk ended. (This project.)
 use Rattle.std.specs.Prelude.{◌≡◌, Result, Ok, Err}
 use Rattle.cl_value.specs.Plain.{PlainRequest}
-use Rattle.cl_value.specs.Room.{Room}
+use Rattle.cl_ground.specs.Room.{Room}
 use Rattle.cl_value.specs.declared.value.Value.{Value}
 use Rattle.cl_model.specs.Demand.{Outcome, Wants, Finishes, Traps}
 use Rattle.cl_walk.specs.declared.public.Ending.{Ending}

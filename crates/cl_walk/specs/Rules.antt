@@ -12,6 +12,7 @@ use Rattle.cl_walk.specs.Walks.{Point, Comes, Walks, log_at}
 use Rattle.cl_walk.specs.Views.{exit_of}
 use Rattle.cl_walk.specs.declared.call.Exit.{Exit as WalkExit}
 use Rattle.cl_walk.specs.declared.stop.Stop.{Stop}
+use Rattle.cl_ground.specs.declared.limits.TheConstants.{MOST_DEPTH}
 
 -- the request of an operation whose fields are read, and what comes of it
 abbrev pub requests : ℕ → Verb → List Aim → Does Value
@@ -21,7 +22,7 @@ requests site verb fields = do
 
 -- the same of an `eval` by a process of this depth
 abbrev pub spawns : ℕ → ℕ → List PlainPart → Does Value
-spawns depth site live = if nat_lt depth 64 then (ask (record { site = site; ask = Eval live }) >> pure (truth true)) else trap EvalDepth
+spawns depth site live = if nat_lt depth MOST_DEPTH then (ask (record { site = site; ask = Eval live }) >> pure (truth true)) else trap EvalDepth
 
 -- a loop is left, or goes on
 abbrev pub left_or : Does Exit → Option WalkExit → Does Exit

@@ -18,13 +18,16 @@ reply_in (answers.Got tuple) = Some (Got tuple.items)
 reply_in answers.Missed = Some Miss
 reply_in answers.Paused = None
 
+-- a field that was read, as the meaning has it
 abbrev pub aim_of : Aim → meaning.Aim
 aim_of (aims.Holds value) = meaning.Holds value
 aim_of (aims.Fills of name at) = meaning.Fills of name.now at
 
+-- fields that were read, in order
 abbrev pub aims_of : List Aim → List meaning.Aim
 aims_of all = map aim_of all
 
+-- how a statement leaves off, as the meaning has it
 abbrev pub exit_of : Exit → meaning_statements.Exit
 exit_of exits.WentOn = meaning_statements.WentOn
 exit_of exits.Broke = meaning_statements.Broke

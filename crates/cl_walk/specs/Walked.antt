@@ -20,6 +20,7 @@ abbrev pub AreDemanded : Answers → List Told → Type 0
 AreDemanded demand [] = Unit {0}
 AreDemanded demand (t ∷ ts) = ((demand []).outcome ≡ Wants t.request) × (fits t.request.ask t.reply ≡ true) × AreDemanded (behind t.reply demand) ts
 
+-- the replies alone, in order
 abbrev pub replies_of : List Told → List PlainReply
 replies_of ts = map (λ t. t.reply) ts
 

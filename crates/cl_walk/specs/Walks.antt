@@ -25,9 +25,11 @@ pub record Log : Type 0 where
   pub output : List ℕ
   pub told : List Told
 
+-- these bytes were printed besides
 abbrev pub with_bytes : List ℕ → Log → Log
 with_bytes bytes log = record log { output = log.output ++ bytes }
 
+-- this request was answered so besides
 abbrev pub with_told : PlainRequest → PlainReply → Log → Log
 with_told request reply log = record log { told = log.told ++ record { request = request; reply = reply } ∷ [] }
 
@@ -45,13 +47,16 @@ pub record Shown : Type 0 where
   pub state : State Variables
   pub output : List ℕ
 
+-- where a process and its world stand
 pub record Point : Type 0 where
   pub shown : Shown
   pub said : Said
 
+-- a process that works on this, in a world that was asked so far
 abbrev pub point : Shown → Said → Point
 point shown said = record { shown = shown; said = said }
 
+-- what was printed and told up to here
 abbrev pub log_at : Point → Log
 log_at p = record { output = p.shown.output; told = p.said.told }
 
@@ -63,5 +68,6 @@ Comes view p from (Err (Trapped t)) to = Walks (p from.shown.state) (log_at from
 Comes {A} view p from (Err Paused) to = (rest : PlainReply → Steps (A × State Variables)) × Walks (p from.shown.state) (log_at from) (Asks to.said.pending rest) (log_at to)
 Comes view p from (Err NoMemory) to = Unit {0}
 
+-- what is given as it is
 abbrev pub same : {A : Type 0} → A → A
 same a = a

@@ -14,8 +14,9 @@ ghost use Rattle.cl_walk.specs.Walks.{Point, Comes, same};
 use crate::literal::{field_type, single};
 use crate::stop::Stop;
 use cl_ast::{Function, Parameter, TypeName};
+use cl_ground::Items;
 use cl_state::{Locals, Variable, converted, zero_of};
-use cl_value::{FieldType, Items, Value};
+use cl_value::{FieldType, Value};
 use std::alloc::Global;
 
 /// How a statement leaves off.

@@ -26,8 +26,9 @@ use crate::world::World;
 use cl_ast::{
     Call, Chain, Expr, Field, Formal, Function, Link, Operation, Operator, Place, Text, Verb,
 };
+use cl_ground::Items;
 use cl_state::{Locals, is_zero, literal, negated, number, operated, truth};
-use cl_value::{FieldType, Items, LiveField, Trap, Value};
+use cl_value::{FieldType, LiveField, Trap, Value};
 
 // An index, where the array is so long.
 fn index_of(n: i64, length: usize) -> Result<usize, Stop>

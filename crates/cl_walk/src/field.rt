@@ -13,8 +13,9 @@ use crate::state::State;
 use crate::stop::Stop;
 use crate::world::{Answer, World};
 use cl_ast::{TypeName, Verb};
+use cl_ground::{Items, MOST_DEPTH, MOST_FIELDS};
 use cl_state::truth;
-use cl_value::{Ask, Items, Live, LiveField, Request, Slot, Template, Trap, Tuple, Value};
+use cl_value::{Ask, Live, LiveField, Request, Slot, Template, Trap, Tuple, Value};
 use std::alloc::Global;
 
 /// A field that was read: a value, or a place that is to get one.
@@ -53,7 +54,7 @@ fn tuple(alloc: Global, aims: &[Aim<'_>]) -> Result<Tuple, Stop>
             values.push(*value);
         }
     }
-    if values.len() == 0 || values.len() > 16 {
+    if values.len() == 0 || values.len() > MOST_FIELDS {
         return Err(Stop::NoMemory);
     }
     Ok(Tuple::new(values))
@@ -67,7 +68,7 @@ fn template(alloc: Global, aims: &[Aim<'_>]) -> Result<Template, Stop>
         slots.reserve(1)?;
         slots.push(slot(aim));
     }
-    if slots.len() == 0 || slots.len() > 16 {
+    if slots.len() == 0 || slots.len() > MOST_FIELDS {
         return Err(Stop::NoMemory);
     }
     Ok(Template::new(slots))
@@ -142,10 +143,10 @@ pub fn spawn<W: World>(
 ) -> Result<Value, Stop>
     ensures { Comes same (spawns depth site (map plain_part fields.items)) (point state.now (W.said world.old)) result (point state.now (W.said world.new)) }
 {
-    if depth >= 64 {
+    if depth >= MOST_DEPTH {
         return Err(Stop::Trapped(Trap::EvalDepth));
     }
-    if fields.len() == 0 || fields.len() > 16 {
+    if fields.len() == 0 || fields.len() > MOST_FIELDS {
         return Err(Stop::NoMemory);
     }
     let ask = Ask::Eval(Live::new(fields));

@@ -6,8 +6,9 @@ ghost use Rattle.cl_walk.specs.Formats.{part_prints, part_leaves};
 
 use crate::stop::Stop;
 use cl_ast::TypeName;
+use cl_ground::Items;
 use cl_state::{converted, number};
-use cl_value::{Items, Value};
+use cl_value::Value;
 use itoa::Buffer;
 use std::alloc::Global;
 

@@ -14,8 +14,6 @@ mod public;
 mod state;
 mod statement;
 mod stop;
-#[cfg(test)]
-mod tests;
 mod world;
 
 pub use public::{Ending, Walked, walk};

@@ -26,7 +26,7 @@ pub struct Program<'a> {
     functions: Vec<Callable<'a>>,
     // the place of the first function of each name
     places: IndexMap<&'a [u8], usize>,
-    listing: Listing<'a>,
+    listing: &'a Listing<'a>,
     scope: Globals<'a>,
     cells: u64,
 }
@@ -51,7 +51,7 @@ impl<'a> Model for Program<'a> {
 
     ghost view = { λ p. p.unit.now };
 
-    ghost invariant = { λ p. (p.listing ≡ listing_of (in_items p.unit.now.items)) × (p.scope ≡ outer p.unit.now.items) × (p.cells ≡ capped (cells_of_globals p.unit.now.items)) × AreCallables (outer p.unit.now.items) 0 (functions_of p.unit.now.items) p.functions.items × ((name : Bor (List ℕ)) → get (λ a b. pointwise nat_eq a.now b.now) p.places name ≡ place_named name.now (functions_of p.unit.now.items)) };
+    ghost invariant = { λ p. (p.listing.now ≡ listing_of (in_items p.unit.now.items)) × (p.scope ≡ outer p.unit.now.items) × (p.cells ≡ capped (cells_of_globals p.unit.now.items)) × AreCallables (outer p.unit.now.items) 0 (functions_of p.unit.now.items) p.functions.items × ((name : Bor (List ℕ)) → get (λ a b. pointwise nat_eq a.now b.now) p.places name ≡ place_named name.now (functions_of p.unit.now.items)) };
 }
 
 ghost use Rattle.std.specs.Prelude.{ℕ, ◌≡◌, List, [], ◌∷◌, ◌++◌, nat_eq, OnOk};
@@ -139,18 +139,20 @@ fn add_items<'a>(
 
 impl<'a> Program<'a> {
     ghost use Rattle.std.specs.Prelude.{ℕ, ◌≡◌, IfOk, IfSome, slice_get, option_map};
+    ghost use Rattle.cl_listing.specs.Listing.{in_items};
+    ghost use Rattle.cl_listing.specs.Listed.{listing_of};
     ghost use Rattle.cl_meaning.specs.Outer.{outer, functions_of, number_of, frame_cells, size_in};
     ghost use Rattle.cl_meaning.specs.Process.{fixed, cells_of_globals};
     ghost use Rattle.cl_walk.specs.Numbers.{capped, first_named};
     ghost use Rattle.cl_walk.specs.Callables.{IsNamed};
 
-    /// Reads what a text declares.
-    pub fn new(alloc: Global, unit: &'a Unit) -> Result<Program<'a>, Stop>
+    /// Reads what a text declares, whose listing is this.
+    pub fn new(alloc: Global, unit: &'a Unit, listing: &'a Listing<'a>) -> Result<Program<'a>, Stop>
+        requires { listing.now ≡ listing_of (in_items unit.now.items) }
         ensures { IfOk result (λ program. program ≡ unit.now) }
     {
         let items = unit.items.as_slice();
         let scope = outer(alloc, items)?;
-        let listing = Listing::new(alloc, unit)?;
         let cells = global_cells(&scope, items);
         let mut functions = Vec::new(alloc);
         let mut places = IndexMap::new(alloc);

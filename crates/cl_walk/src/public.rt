@@ -1,6 +1,9 @@
-ghost use Rattle.std.specs.Prelude.{◌≡◌, map, IfOk};
+ghost use Rattle.std.specs.Prelude.{◌≡◌, ◌-◌, map, IfOk};
+ghost use Rattle.cl_ground.specs.declared.limits.TheConstants.{MOST_ACTIVE};
 ghost use Rattle.cl_value.specs.Views.{plain_start};
 ghost use Rattle.cl_value.specs.LiveViews.{plain_part, plain_live};
+ghost use Rattle.cl_listing.specs.Listing.{in_items};
+ghost use Rattle.cl_listing.specs.Listed.{listing_of};
 ghost use Rattle.cl_meaning.specs.Process as meaning;
 ghost use Rattle.cl_meaning.specs.Process.{main, part_does, parts_do, process, demands};
 ghost use Rattle.cl_walk.specs.Walks.{point, Comes, same};
@@ -15,8 +18,10 @@ use crate::state::State;
 use crate::stop::Stop;
 use crate::world::World;
 use cl_ast::Unit;
+use cl_ground::{Items, MOST_ACTIVE, MOST_FIELDS, NoMemory};
+use cl_listing::Listing;
 use cl_state::Locals;
-use cl_value::{Items, Live, LiveField, NoMemory, Start, Trap, Tuple, Value};
+use cl_value::{Live, LiveField, Start, Trap, Tuple, Value};
 use std::alloc::Global;
 
 /// How a walk ended.
@@ -45,7 +50,7 @@ fn main_process<'a, W: World>(
     state: &mut State<'a>,
 ) -> Result<Tuple, Stop>
     requires depth { on.now.depth ≡ 0 }
-    requires calls { on.now.calls ≡ 255 }
+    requires calls { on.now.calls ≡ MOST_ACTIVE - 1 }
     ensures { Comes (λ values. values.items) (main on.now.program.now.items) (point state.old (W.said world.old)) result (point state.new (W.said world.new)) }
 {
     state.claim(on.program.cells())?;
@@ -68,7 +73,7 @@ fn part<'a, W: World>(
     state: &mut State<'a>,
     field: &LiveField,
 ) -> Result<Value, Stop>
-    requires { on.now.calls ≡ 256 }
+    requires { on.now.calls ≡ MOST_ACTIVE }
     ensures { Comes same (part_does on.now.program.now.items on.now.depth (plain_part field.now)) (point state.old (W.said world.old)) result (point state.new (W.said world.new)) }
 {
     match field {
@@ -97,12 +102,12 @@ fn live_process<'a, W: World>(
     state: &mut State<'a>,
     live: &Live,
 ) -> Result<Tuple, Stop>
-    requires { on.now.calls ≡ 256 }
+    requires { on.now.calls ≡ MOST_ACTIVE }
     ensures { Comes (λ values. values.items) (meaning.live on.now.program.now.items on.now.depth (plain_live live.now)) (point state.old (W.said world.old)) result (point state.new (W.said world.new)) }
 {
     state.claim(on.program.cells())?;
     let values = parts(on, world, state, live.fields())?;
-    if values.len() == 0 || values.len() > 16 {
+    if values.len() == 0 || values.len() > MOST_FIELDS {
         return Err(Stop::NoMemory);
     }
     Ok(Tuple::new(values))
@@ -114,7 +119,7 @@ fn parts<'a, W: World>(
     state: &mut State<'a>,
     fields: &[LiveField],
 ) -> Result<Items<Value>, Stop>
-    requires { on.now.calls ≡ 256 }
+    requires { on.now.calls ≡ MOST_ACTIVE }
     ensures { Comes (λ values. values.items) (parts_do on.now.program.now.items on.now.depth (map plain_part fields.now)) (point state.old (W.said world.old)) result (point state.new (W.said world.new)) }
 {
     let mut values = Items::new(on.alloc);
@@ -126,33 +131,37 @@ fn parts<'a, W: World>(
     Ok(values)
 }
 
-/// Walks a process of a tree to its end, or to where the world pauses it: it may take so many ticks. `NoMemory` comes where the allocator refused
-/// memory; then nothing is known of what the world was asked.
-pub fn walk<W: World>(
+/// Walks a process of a tree, whose listing is handed in, to its end, or to where the world pauses it: it may take so many ticks. `NoMemory` comes
+/// where the allocator refused memory; then nothing is known of what the world was asked.
+pub fn walk<'a, W: World>(
     alloc: Global,
-    unit: &Unit,
+    unit: &'a Unit,
+    listing: &'a Listing<'a>,
     start: &Start,
     ticks: u64,
     world: &mut W,
 ) -> Result<Walked, NoMemory>
+    requires { listing.now ≡ listing_of (in_items unit.now.items) }
     ensures { IfOk result (λ walked. IsWalk (demands unit.now.items ticks (plain_start start.now)) (W.said world.old) (W.said world.new) walked.output.items (outcome_of (W.said world.new).pending walked.ending)) }
 {
-    match walk_or_stop(alloc, unit, start, ticks, world) {
+    match walk_or_stop(alloc, unit, listing, start, ticks, world) {
         Ok(walked) => Ok(walked),
         Err(_) => Err(NoMemory),
     }
 }
 
-fn walk_or_stop<W: World>(
+fn walk_or_stop<'a, W: World>(
     alloc: Global,
-    unit: &Unit,
+    unit: &'a Unit,
+    listing: &'a Listing<'a>,
     start: &Start,
     ticks: u64,
     world: &mut W,
 ) -> Result<Walked, Stop>
+    requires { listing.now ≡ listing_of (in_items unit.now.items) }
     ensures { IfOk result (λ walked. IsWalk (demands unit.now.items ticks (plain_start start.now)) (W.said world.old) (W.said world.new) walked.output.items (outcome_of (W.said world.new).pending walked.ending)) }
 {
-    let program = Program::new(alloc, unit)?;
+    let program = Program::new(alloc, unit, listing)?;
     let globals = outer(alloc, unit.items.as_slice())?;
     let mut state = State::new(alloc, globals, ticks);
     let ending = how_ended(process(alloc, &program, start, world, &mut state))?;
@@ -189,7 +198,7 @@ fn process<'a, W: World>(
                 alloc,
                 program,
                 depth: 0,
-                calls: 255,
+                calls: MOST_ACTIVE as u32 - 1,
             };
             main_process(&on, world, state)
         }
@@ -202,7 +211,7 @@ fn process<'a, W: World>(
                 alloc,
                 program,
                 depth: *depth,
-                calls: 256,
+                calls: MOST_ACTIVE as u32,
             };
             live_process(&on, world, state, live)
         }

@@ -2,17 +2,12 @@
 
 use crate::stop::Stop;
 use cl_ast::TypeName;
+use cl_ground::{Items, MOST_CELLS, MOST_PRINTED};
 use cl_state::{Globals, Locals, Variable, converted, zero_of};
-use cl_value::{Items, Trap, Value};
+use cl_value::{Trap, Value};
 use std::alloc::Global;
 use std::marker::Model;
 use std::mem;
-
-/// The most bytes that a process prints.
-pub const MAX_OUTPUT: usize = 65_536;
-
-/// The most cells of globals and active frames.
-pub const MAX_CELLS: u64 = 65_536;
 
 /// What a process works on. Contracts see its variables and what is left of its limits, and what it printed.
 #[derive(Drop)]
@@ -26,13 +21,14 @@ pub struct State<'a> {
 
 impl<'a> Model for State<'a> {
     ghost use Rattle.std.specs.Prelude.{◌≤◌, length};
+    ghost use Rattle.cl_ground.specs.declared.limits.TheConstants.{MOST_CELLS, MOST_PRINTED};
     ghost use Rattle.cl_walk.specs.Walks.{Shown};
 
     ghost Value = { Shown };
 
     ghost view = { λ s. record { state = record { variables = record { globals = s.globals; locals = s.locals }; ticks = s.ticks; cells = s.cells; printed = length s.output.items }; output = s.output.items } };
 
-    ghost invariant = { λ s. (s.cells ≤ 65536) × (length s.output.items ≤ 65536) };
+    ghost invariant = { λ s. (s.cells ≤ MOST_CELLS) × (length s.output.items ≤ MOST_PRINTED) };
 }
 
 impl<'a> State<'a> {
@@ -151,7 +147,7 @@ impl<'a> State<'a> {
         ensures { (said : Said) (n : ℕ) → cells ≡ capped n → Comes same (doing.claim n) (point self.old said) result (point self.new said) }
     {
         let all = self.cells.saturating_add(cells);
-        if all > MAX_CELLS {
+        if all > MOST_CELLS as u64 {
             return Err(Stop::Trapped(Trap::CellLimit));
         }
         self.cells = all;
@@ -169,7 +165,7 @@ impl<'a> State<'a> {
     pub fn print(&mut self, bytes: &[u8]) -> Result<(), Stop>
         ensures { (said : Said) → Comes same (doing.print bytes.now) (point self.old said) result (point self.new said) }
     {
-        if bytes.len() > MAX_OUTPUT - self.output.len() {
+        if bytes.len() > MOST_PRINTED - self.output.len() {
             return Err(Stop::Trapped(Trap::OutputLimit));
         }
         self.output.reserve(bytes.len())?;

@@ -1,4 +1,5 @@
-use cl_value::{NoMemory, Trap};
+use cl_ground::NoMemory;
+use cl_value::Trap;
 use std::alloc::AllocError;
 
 /// Why a walk stops before the end of its process.

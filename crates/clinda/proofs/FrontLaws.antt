@@ -1,5 +1,5 @@
 -- A source is read as one tree, or refused in one way.
-use Rattle.std.proofs.Common.{◌≡◌, ℕ, zero, suc, ◌≤◌, ◌<◌, List, [], ◌∷◌, length, map, drop, get_or, Result, Ok, Err, refl, sym, ap, subst, ◌∙◌, arith}
+use Rattle.std.proofs.Common.{◌≡◌, ℕ, zero, suc, ◌≤◌, ◌<◌, List, [], ◌∷◌, length, map, drop, get_or, Result, Ok, refl, sym, ap, subst, ◌∙◌, arith}
 use Rattle.cl_rules.specs.Rules.{Kind, Syntax, TooDeep}
 use Rattle.cl_rules.proofs.Exact.{stops_once}
 use Rattle.cl_rules.proofs.Reading.{reads_is}
@@ -7,27 +7,54 @@ use Rattle.cl_ast.specs.declared.fault.LexKind.{LexKind}
 use Rattle.cl_ast.specs.declared.fault.LexKind.TheVariants as lexical
 use Rattle.cl_ast.specs.declared.statement.Item.{Item}
 use Rattle.cl_ast.specs.declared.token.Token.{Token}
-use Rattle.cl_ast.specs.Room.{Room}
+use Rattle.cl_ground.specs.Room.{Room}
 use Rattle.cl_ast.specs.Views.{plain_token}
 use Rattle.cl_ast.specs.Plain.{PlainToken}
 use Rattle.cl_ast.specs.Grammar.{unit}
 use Rattle.cl_ast.specs.Splits.{Splits}
 use Rattle.cl_ast.specs.Tables.{bounds}
 use Rattle.cl_ast.proofs.Fits.{grammar_fits, unit_fits}
-use Rattle.cl_token.specs.Lexing.{IsFirstFault, IsOnly, TellsFault}
+use Rattle.cl_token.specs.Lexing.{IsFirstFault, IsOnly}
 use Rattle.cl_token.specs.declared.lexer.LexEnd.{LexEnd}
-use Rattle.cl_token.specs.declared.lexer.LexEnd.TheVariants as lex_ends
 use Rattle.cl_token.proofs.Walk.{one_fault}
 use Rattle.cl_parse.specs.Unit.{Derives, IsTree, IsStopped}
 use Rattle.clinda.specs.declared.refusal_kind.RefusalKind.{RefusalKind}
 use Rattle.clinda.specs.declared.refusal_kind.RefusalKind.TheVariants as kinds
 use Rattle.clinda.specs.Commands.{Print}
 use Rattle.clinda.specs.Front.{IsReadAs, StopsAt, place_of, FailsBy}
-use Rattle.clinda.specs.FrontEnds.{IsSplitOnce, refusal_kind, StopsFront, EndsFront}
+use Rattle.clinda.specs.FrontEnds.{IsSplitOnce, refusal_kind, EndsFront}
 use Rattle.clinda.specs.declared.front.FrontEnd.{FrontEnd}
 use Rattle.clinda.specs.declared.front.FrontEnd.TheVariants as ends
 use Rattle.clinda.specs.Making.{HasProgram, IsRefused}
 use Rattle.clinda.proofs.Refused.{same_refusal}
+
+-- ---- the causes of a failure
+
+-- the kind of a refusal of tokens
+abbrev pub stop_kind : Kind → RefusalKind
+stop_kind Syntax = kinds.Syntax
+stop_kind TooDeep = kinds.TooDeep
+
+-- what holds of each fault of the bytes and of each stop at a token holds of each failure; no other kind has one
+by_cause : (source : List ℕ) (P : RefusalKind → ℕ → Type 0) → ((k : LexKind) (p : ℕ) → IsFirstFault source p k → P (refusal_kind k) p) → ((k : Kind) (p : ℕ) → StopsAt source k p → P (stop_kind k) p) → (k : RefusalKind) (p : ℕ) → FailsBy k source p → P k p
+by_cause source P faults stops kinds.BadByte p f = faults lexical.BadByte p f
+by_cause source P faults stops kinds.OpenString p f = faults lexical.OpenString p f
+by_cause source P faults stops kinds.OpenComment p f = faults lexical.OpenComment p f
+by_cause source P faults stops kinds.WideLiteral p f = faults lexical.WideLiteral p f
+by_cause source P faults stops kinds.BadDirective p f = faults lexical.BadDirective p f
+by_cause source P faults stops kinds.Syntax p f = stops Syntax p f
+by_cause source P faults stops kinds.TooDeep p f = stops TooDeep p f
+by_cause source P faults stops kinds.NoMain p f = absurd f
+by_cause source P faults stops kinds.UnknownName p f = absurd f
+by_cause source P faults stops kinds.TwiceDeclared p f = absurd f
+by_cause source P faults stops kinds.WrongType p f = absurd f
+by_cause source P faults stops kinds.WrongCount p f = absurd f
+by_cause source P faults stops kinds.BadFormat p f = absurd f
+by_cause source P faults stops kinds.BadField p f = absurd f
+by_cause source P faults stops kinds.NoLoop p f = absurd f
+by_cause source P faults stops kinds.TooManySites p f = absurd f
+by_cause source P faults stops kinds.TooManyFunctions p f = absurd f
+by_cause source P faults stops kinds.NotBuilt p f = absurd f
 
 -- ---- sources that aren't tokens
 
@@ -42,43 +69,21 @@ module _ (source : List ℕ) (place : ℕ) (kind : LexKind) (fault : IsFirstFaul
   fails_so lexical.WideLiteral f = f
   fails_so lexical.BadDirective f = f
 
-  same_fault : (p : ℕ) (k : LexKind) → IsFirstFault source p k → (refusal_kind kind ≡ refusal_kind k) × (place ≡ p)
-  same_fault p k f = let same = one_fault source place p kind k fault.fault f.fault in (ap refusal_kind same.same_kind, same.same_place)
+  same_fault : (k : LexKind) (p : ℕ) → IsFirstFault source p k → (refusal_kind kind ≡ refusal_kind k) × (place ≡ p)
+  same_fault k p f = let same = one_fault source place p kind k fault.fault f.fault in (ap refusal_kind same.same_kind, same.same_place)
 
-  same_failure : (p : ℕ) (k : RefusalKind) → FailsBy k source p → (refusal_kind kind ≡ k) × (place ≡ p)
-  same_failure p kinds.BadByte f = same_fault p lexical.BadByte f
-  same_failure p kinds.OpenString f = same_fault p lexical.OpenString f
-  same_failure p kinds.OpenComment f = same_fault p lexical.OpenComment f
-  same_failure p kinds.WideLiteral f = same_fault p lexical.WideLiteral f
-  same_failure p kinds.BadDirective f = same_fault p lexical.BadDirective f
-  same_failure p kinds.Syntax f = absurd (fault.none f.tokens f.splits)
-  same_failure p kinds.TooDeep f = absurd (fault.none f.tokens f.splits)
-  same_failure p kinds.NoMain f = absurd f
-  same_failure p kinds.UnknownName f = absurd f
-  same_failure p kinds.TwiceDeclared f = absurd f
-  same_failure p kinds.WrongType f = absurd f
-  same_failure p kinds.WrongCount f = absurd f
-  same_failure p kinds.BadFormat f = absurd f
-  same_failure p kinds.BadField f = absurd f
-  same_failure p kinds.NoLoop f = absurd f
-  same_failure p kinds.TooManySites f = absurd f
-  same_failure p kinds.TooManyFunctions f = absurd f
-  same_failure p kinds.NotBuilt f = absurd f
+  same_failure : (k : RefusalKind) (p : ℕ) → FailsBy k source p → (refusal_kind kind ≡ k) × (place ≡ p)
+  same_failure = by_cause source (λ k p. (refusal_kind kind ≡ k) × (place ≡ p)) same_fault (λ k p f. absurd (fault.none f.tokens f.splits))
 
   pub fault_refuses : IsRefused Print source (record { kind = refusal_kind kind; place = place })
   fault_refuses =
       record {
         none = no_tree;
         is = fails_so kind fault;
-        alone = λ other fails. let same = same_failure other.place other.kind fails in same_refusal (refusal_kind kind) place other same.0 same.1;
+        alone = λ other fails. let same = same_failure other.kind other.place fails in same_refusal (refusal_kind kind) place other same.0 same.1;
       }
 
 -- ---- sources of these tokens
-
--- the kind of a refusal of tokens
-abbrev pub stop_kind : Kind → RefusalKind
-stop_kind Syntax = kinds.Syntax
-stop_kind TooDeep = kinds.TooDeep
 
 -- reading stops at one place, by one kind
 one_stop : (tokens : List PlainToken) (kind other : Kind) (bad worse : List PlainToken) → IsStopped 64 tokens kind bad → IsStopped 64 tokens other worse → (kind ≡ other) × (bad ≡ worse)
@@ -100,37 +105,20 @@ module _ (source : List ℕ) (tokens : List PlainToken) (split : IsSplitOnce sou
     stops_so Syntax s = record { tokens = tokens; splits = split.splits; bad = bad; stopped = s; place_is = refl }
     stops_so TooDeep s = record { tokens = tokens; splits = split.splits; bad = bad; stopped = s; place_is = refl }
 
-    same_stop : (p : ℕ) (k : Kind) → StopsAt source k p → (stop_kind kind ≡ stop_kind k) × (place_of source bad ≡ p)
-    same_stop p k s =
+    same_stop : (k : Kind) (p : ℕ) → StopsAt source k p → (stop_kind kind ≡ stop_kind k) × (place_of source bad ≡ p)
+    same_stop k p s =
         let same = one_stop tokens kind k bad s.bad stopped (of_tokens (λ ts. IsStopped 64 ts k s.bad) s.tokens s.splits s.stopped) in
         (ap stop_kind same.0, ap (place_of source) same.1 ∙ sym s.place_is)
 
-    same_end : (p : ℕ) (k : RefusalKind) → FailsBy k source p → (stop_kind kind ≡ k) × (place_of source bad ≡ p)
-    same_end p kinds.BadByte f = absurd (no_fault p lexical.BadByte f)
-    same_end p kinds.OpenString f = absurd (no_fault p lexical.OpenString f)
-    same_end p kinds.OpenComment f = absurd (no_fault p lexical.OpenComment f)
-    same_end p kinds.WideLiteral f = absurd (no_fault p lexical.WideLiteral f)
-    same_end p kinds.BadDirective f = absurd (no_fault p lexical.BadDirective f)
-    same_end p kinds.Syntax f = same_stop p Syntax f
-    same_end p kinds.TooDeep f = same_stop p TooDeep f
-    same_end p kinds.NoMain f = absurd f
-    same_end p kinds.UnknownName f = absurd f
-    same_end p kinds.TwiceDeclared f = absurd f
-    same_end p kinds.WrongType f = absurd f
-    same_end p kinds.WrongCount f = absurd f
-    same_end p kinds.BadFormat f = absurd f
-    same_end p kinds.BadField f = absurd f
-    same_end p kinds.NoLoop f = absurd f
-    same_end p kinds.TooManySites f = absurd f
-    same_end p kinds.TooManyFunctions f = absurd f
-    same_end p kinds.NotBuilt f = absurd f
+    same_end : (k : RefusalKind) (p : ℕ) → FailsBy k source p → (stop_kind kind ≡ k) × (place_of source bad ≡ p)
+    same_end = by_cause source (λ k p. (stop_kind kind ≡ k) × (place_of source bad ≡ p)) (λ k p f. absurd (no_fault p k f)) same_stop
 
     pub stop_refuses : IsRefused Print source (record { kind = stop_kind kind; place = place_of source bad })
     stop_refuses =
         record {
           none = none_read;
           is = stops_so kind stopped;
-          alone = λ other fails. let same = same_end other.place other.kind fails in same_refusal (stop_kind kind) (place_of source bad) other same.0 same.1;
+          alone = λ other fails. let same = same_end other.kind other.place fails in same_refusal (stop_kind kind) (place_of source bad) other same.0 same.1;
         }
 
   module _ (items : List Item) (tree : IsTree 64 tokens items) where
@@ -138,24 +126,7 @@ module _ (source : List ℕ) (tokens : List PlainToken) (split : IsSplitOnce sou
     never_stops k p s = (of_tokens (λ ts. IsStopped 64 ts k s.bad) s.tokens s.splits s.stopped).none items tree.derived
 
     never_fails : (k : RefusalKind) (p : ℕ) → FailsBy k source p → ⊥
-    never_fails kinds.BadByte p f = no_fault p lexical.BadByte f
-    never_fails kinds.OpenString p f = no_fault p lexical.OpenString f
-    never_fails kinds.OpenComment p f = no_fault p lexical.OpenComment f
-    never_fails kinds.WideLiteral p f = no_fault p lexical.WideLiteral f
-    never_fails kinds.BadDirective p f = no_fault p lexical.BadDirective f
-    never_fails kinds.Syntax p f = never_stops Syntax p f
-    never_fails kinds.TooDeep p f = never_stops TooDeep p f
-    never_fails kinds.NoMain p f = f
-    never_fails kinds.UnknownName p f = f
-    never_fails kinds.TwiceDeclared p f = f
-    never_fails kinds.WrongType p f = f
-    never_fails kinds.WrongCount p f = f
-    never_fails kinds.BadFormat p f = f
-    never_fails kinds.BadField p f = f
-    never_fails kinds.NoLoop p f = f
-    never_fails kinds.TooManySites p f = f
-    never_fails kinds.TooManyFunctions p f = f
-    never_fails kinds.NotBuilt p f = f
+    never_fails = by_cause source (λ k p. ⊥) (λ k p f. no_fault p k f) never_stops
 
     same_tree : (others : List Item) → IsReadAs source others → items ≡ others
     same_tree others read = sym (tree.only 64 others (of_tokens (λ ts. Derives 64 ts others) read.tokens read.splits read.tree.derived))
@@ -169,11 +140,6 @@ module _ (source : List ℕ) (tokens : List PlainToken) (split : IsSplitOnce sou
         }
 
 -- ---- what the lexer and the parser tell
-
--- a fault that ends the lexer is one of the source
-pub stops_front : (source : List ℕ) (result : Result (Room Token) LexEnd) (end : LexEnd) → result ≡ Err end → TellsFault result source → StopsFront source end
-stops_front source result (lex_ends.Fault place kind) is told = subst (λ (r : Result (Room Token) LexEnd). TellsFault r source) is told
-stops_front source result lex_ends.NoMemory is told = tt
 
 -- the tokens that the lexer gives are the only ones
 pub split_once : (source : List ℕ) (result : Result (Room Token) LexEnd) (found : Room Token) (tokens : List Token) → result ≡ Ok found → tokens ≡ found.items → ((others : List PlainToken) → Splits source others → IsOnly result others) → Splits source (map plain_token found.items) → IsSplitOnce source (map plain_token tokens)

@@ -2,6 +2,7 @@
 use Rattle.std.specs.Prelude.{ℕ, ◌<◌, ◌≤◌, ◌^◌, ◌≡◌, ◌==◌, Bool, true, false, List, [], ◌∷◌, ◌++◌, Option, Some, None, IfSome, unwrap_or, codes}
 use Rattle.std.specs.Fmt.{decimal}
 use Rattle.std.specs.List.{list_any}
+use Rattle.cl_ground.specs.declared.limits.TheConstants.{DEFAULT_ENTRIES, DEFAULT_STEPS, MOST_BYTES, MOST_STEPS}
 
 -- what may be said of a run: how many ticks each process may take
 pub record Options : Type 0 where
@@ -17,6 +18,7 @@ abbrev pub steps_words : Option ℕ → List (List ℕ)
 steps_words None = []
 steps_words (Some n) = (codes "steps=" ++ decimal n) ∷ []
 
+-- the words of what is said of a run
 abbrev pub option_words : Options → List (List ℕ)
 option_words options = steps_words options.steps
 
@@ -27,7 +29,7 @@ words_of Print = codes "print" ∷ []
 
 -- the most ticks that may be said: 2 to the 40th
 abbrev pub most_steps : ℕ
-most_steps = 1099511627776
+most_steps = MOST_STEPS
 
 -- what is said is in its range
 pub record AreInRange (options : Options) : Type 0 where
@@ -49,16 +51,16 @@ SpellsNone words = (command : Command) → Spells words command → ⊥
 
 -- the ticks of a process
 abbrev pub ticks_of : Options → ℕ
-ticks_of options = unwrap_or options.steps 1000000
+ticks_of options = unwrap_or options.steps DEFAULT_STEPS
 
 -- the most acts of a set
 abbrev pub entries_of : Options → ℕ
-entries_of options = 1048576
+entries_of options = DEFAULT_ENTRIES
 
 -- the most bytes of its source
 abbrev pub most_bytes : Command → ℕ
-most_bytes (Seq seed options) = 1048576
-most_bytes Print = 1048576
+most_bytes (Seq seed options) = MOST_BYTES
+most_bytes Print = MOST_BYTES
 
 -- whether it runs the source, and gives a report of that run
 abbrev pub does_run : Command → Bool

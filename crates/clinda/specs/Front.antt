@@ -10,14 +10,15 @@ use Rattle.cl_parse.specs.Unit.{IsTree, IsStopped}
 use Rattle.clinda.specs.declared.refusal_kind.Refusal.{Refusal}
 use Rattle.clinda.specs.declared.refusal_kind.RefusalKind.{RefusalKind}
 use Rattle.clinda.specs.declared.refusal_kind.RefusalKind.TheVariants as kinds
+use Rattle.cl_ground.specs.declared.limits.TheConstants.{MOST_BYTES, MOST_NESTING}
 
 -- the source is the tree of these items: it has at most so many bytes, it splits into tokens, and these derive
 -- the tree and no other, within the nesting
 pub record IsReadAs (source : List ℕ) (items : List Item) : Type 0 where
-  pub size : length source ≤ 1048576
+  pub size : length source ≤ MOST_BYTES
   pub tokens : List PlainToken
   pub splits : Splits source tokens
-  pub tree : IsTree 64 tokens items
+  pub tree : IsTree MOST_NESTING tokens items
 
 -- the place of the first of these tokens, or of the source's end
 abbrev pub place_of : List ℕ → List PlainToken → ℕ
@@ -29,7 +30,7 @@ pub record StopsAt (source : List ℕ) (kind : Kind) (place : ℕ) : Type 0 wher
   pub tokens : List PlainToken
   pub splits : Splits source tokens
   pub bad : List PlainToken
-  pub stopped : IsStopped 64 tokens kind bad
+  pub stopped : IsStopped MOST_NESTING tokens kind bad
   pub place_is : place ≡ place_of source bad
 
 -- the source is refused by a kind at a place: where scanning its bytes first can't go on, or else where reading
@@ -44,5 +45,6 @@ FailsBy kinds.Syntax source place = StopsAt source Syntax place
 FailsBy kinds.TooDeep source place = StopsAt source TooDeep place
 FailsBy _ source place = ⊥
 
+-- the source is refused so
 abbrev pub Fails : List ℕ → Refusal → Type 0
 Fails source refusal = FailsBy refusal.kind source refusal.place

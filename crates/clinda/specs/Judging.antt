@@ -48,9 +48,11 @@ kind_of_fault faulty.NoLoop = kinds.NoLoop
 kind_of_fault faulty.TooManySites = kinds.TooManySites
 kind_of_fault faulty.TooManyFunctions = kinds.TooManyFunctions
 
+-- the refusal of a source whose tree has this fault
 abbrev pub refusal_of_fault : Fault → Refusal
 refusal_of_fault fault = record { kind = kind_of_fault fault.kind; place = fault.place }
 
+-- the refusal of a source with an `eval` there
 abbrev pub not_built : ℕ → Refusal
 not_built place = record { kind = kinds.NotBuilt; place = place }
 
@@ -59,6 +61,7 @@ abbrev pub unfit_by : Option Fault → Option ℕ → Option Refusal
 unfit_by (Some fault) eval = Some (refusal_of_fault fault)
 unfit_by None eval = option_map not_built eval
 
+-- why a run doesn't take the tree, if it doesn't
 abbrev pub unfit : List Item → Option Refusal
 unfit items = unfit_by (first (faults items)) (first_eval items)
 

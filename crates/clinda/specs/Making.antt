@@ -20,6 +20,7 @@ use Rattle.clinda.specs.Judging.{IsRunAs, RefusesRun}
 use Rattle.clinda.specs.Refusals.{refused}
 use Rattle.clinda.specs.declared.outcome.Saying.{Saying}
 use Rattle.clinda.specs.declared.refusal_kind.Refusal.{Refusal}
+use Rattle.cl_ground.specs.declared.limits.TheConstants.{MOST_NESTING}
 
 -- ---- a run, a tree, and a refusal
 
@@ -55,7 +56,7 @@ text_saying items = record { text = canonical items; status = 0 }
 pub record Shows (items : List Item) (report : Option PlainRun) (saying : Saying) : Type 0 where
   pub no_run : report ≡ None
   pub said : saying ≡ text_saying items
-  pub back : ReadsBack 64 saying.text items
+  pub back : ReadsBack MOST_NESTING saying.text items
 
 -- what is to be said of a refusal
 abbrev pub refusal_saying : List ℕ → Refusal → Saying

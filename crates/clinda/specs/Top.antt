@@ -57,6 +57,7 @@ pub record JudgesSource (command : Command) (source : List ℕ) (status : ℕ) (
   pub none : (refusal : Refusal) → Refuses command source refusal → HasNone command source
   pub once : (refusal other : Refusal) → Refuses command source refusal → Refuses command source other → refusal ≡ other
 
+-- a source is refused exactly where the command takes it for no program, by one kind at one place
 abbrev pub SourceClause : List (List ℕ) → ℕ → Option PlainRun → Outside → Outside → Type 0
 SourceClause words status report before after =
     (command : Command) → Reads words command status report before after
@@ -89,6 +90,7 @@ pub record RunsProgram (words : List (List ℕ)) (left : Option (List ℕ)) (run
   pub is : IsProgram command source program
   pub good : IsGoodRun command program run
 
+-- the report is that of a good run of the program that is the source
 abbrev pub RunClause : List (List ℕ) → Option PlainRun → Outside → Type 0
 RunClause words report before = IfSome report (RunsProgram words before.left)
 
@@ -98,6 +100,7 @@ pub record TellsStuck (command : Command) (program : Program command) (status : 
   pub only : status ≡ 7 → IsStuck command program run × (some_failure run.reports ≡ false)
   pub told : IsStuck command program run → some_failure run.reports ≡ false → (status ≡ 7) ⊎ ((status ≡ 5) ⊎ (status ≡ 8))
 
+-- status 7 comes exactly where the run is stuck and no process of it failed
 pub record StuckClause (words : List (List ℕ)) (status : ℕ) (report : Option PlainRun) (before : Outside) : Type 0 where
   pub reported : status ≡ 7 → IsSome report
   pub exact : (command : Command) → Spells words command
@@ -119,6 +122,7 @@ pub record TellsHalted (halt status : ℕ) (run : PlainRun) : Type 0 where
   pub only : status ≡ halt → IsHalted halt run
   pub told : IsHalted halt run → (status ≡ halt) ⊎ ((status ≡ 5) ⊎ (status ≡ 8))
 
+-- status `halt` comes exactly where a process halted the run by an end of that status
 pub record Halts (halt status : ℕ) (report : Option PlainRun) : Type 0 where
   pub reported : status ≡ halt → IsSome report
   pub exact : IfSome report (TellsHalted halt status)
@@ -182,6 +186,7 @@ pub record Reports (command : Command) (source : List ℕ) (report : Option Plai
   pub run : IsSome report → (program : Program command) × IsProgram command source program
   pub there : does_run command ≡ true → (program : Program command) → IsProgram command source program → IsSome report
 
+-- a report is there exactly where the command runs a source and the source is a program
 pub record ReportClause (words : List (List ℕ)) (status : ℕ) (report : Option PlainRun) (before after : Outside) : Type 0 where
   pub none : (command : Command) → Spells words command → does_run command ≡ false → report ≡ None
   pub exact : (command : Command) → Reads words command status report before after → status ≢ 8 → IfSome before.left (λ source. Reports command source report)

@@ -1,6 +1,7 @@
 //! Reads a source of the whole language.
 
 ghost use Rattle.std.specs.Prelude.{◌≡◌, ◌≤◌, ◌<◌, ◌^◌, ℕ, List, map, drop, length, IfOk, IfErr};
+ghost use Rattle.cl_ground.specs.declared.limits.TheConstants.{MOST_BYTES};
 ghost use Rattle.cl_rules.specs.Rules.{Kind};
 ghost use Rattle.cl_ast.specs.Plain.{PlainToken};
 ghost use Rattle.cl_ast.specs.Splits.{Splits};
@@ -60,7 +61,7 @@ fn refused_at(kind: RefusalKind, source: &[u8], tokens: &[Token], token: u32) ->
 
 // Reads the tokens of a source.
 fn read_tokens(alloc: Global, source: &[u8], tokens: &[Token]) -> Result<Unit, FrontEnd>
-    requires size { length source.now ≤ 1048576 }
+    requires size { length source.now ≤ MOST_BYTES }
     requires few { length tokens.now < 2 ^ 32 }
     requires split { IsSplitOnce source.now (map plain_token tokens.now) }
     ensures found { IfOk result (λ unit. HasProgram Print source.now unit.items) }
@@ -98,7 +99,7 @@ fn lexical_end(source: &[u8], end: LexEnd) -> FrontEnd
 /// aren't a tree, at the token with which reading can't go on, or at the end. `NoMemory` comes where the allocator
 /// refused memory.
 pub fn read_source(alloc: Global, source: &[u8]) -> Result<Unit, FrontEnd>
-    requires { length source.now ≤ 1048576 }
+    requires { length source.now ≤ MOST_BYTES }
     ensures found { IfOk result (λ unit. HasProgram Print source.now unit.items) }
     ensures refused { IfErr result (EndsFront source.now) }
 {

@@ -1,6 +1,7 @@
 //! Reads a source for a run: a tree without faults, and without `eval`.
 
 ghost use Rattle.std.specs.Prelude.{◌≡◌, ◌≤◌, ℕ, None, length, IfOk, IfErr};
+ghost use Rattle.cl_ground.specs.declared.limits.TheConstants.{MOST_BYTES};
 ghost use Rattle.cl_types.specs.Findings.{seen};
 ghost use Rattle.clinda.specs.Commands.{Options, Seq, Print};
 ghost use Rattle.clinda.specs.Judging.{kind_of_fault, eval_among, first_eval};
@@ -93,7 +94,7 @@ fn judge(alloc: Global, source: &[u8], unit: Unit) -> Result<Typed, FrontEnd>
 /// It is refused where it isn't read as a tree; else at its first fault; else, where it has an `eval`, at the word of
 /// the first. `NoMemory` comes where the allocator refused memory.
 pub fn judge_source(alloc: Global, source: &[u8]) -> Result<Typed, FrontEnd>
-    requires { length source.now ≤ 1048576 }
+    requires { length source.now ≤ MOST_BYTES }
     ensures found { IfOk result (λ typed. (seed : ℕ) (options : Options) → HasProgram (Seq seed options) source.now typed.items) }
     ensures refused { IfErr result (EndsJudging source.now) }
 {

@@ -1,18 +1,32 @@
-//! Limits of the language that other files keep, pinned to their numbers.
+//! The limits of the language and of a run, pinned to their numbers.
 
-use crate::words::RunOptions;
-use cl_types::{MAX_FIELDS, MAX_FUNCTIONS, MAX_SITES};
-use cl_value::Tuple;
+use cl_ground::{
+    DEFAULT_ENTRIES, DEFAULT_STEPS, MOST_ACTIVE, MOST_BYTES, MOST_CELLS, MOST_DEPTH, MOST_FIELDS,
+    MOST_FUNCTIONS, MOST_NESTING, MOST_PRINTED, MOST_SITES, MOST_SIZE, MOST_STEPS,
+};
 
-// A tuple has at most 16 fields.
-const _: () = prove!(Tuple::MOST_FIELDS == 16);
+const _: () = prove!(MOST_BYTES == 1048576);
 
-const _: () = prove!(MAX_FIELDS == 16);
+const _: () = prove!(MOST_NESTING == 64);
 
-// A source has at most 1,024 operations and 512 functions.
-const _: () = prove!(MAX_SITES == 1024);
+const _: () = prove!(MOST_FUNCTIONS == 512);
 
-const _: () = prove!(MAX_FUNCTIONS == 512);
+const _: () = prove!(MOST_SITES == 1024);
 
-// A process may be allowed at most 2 to the 40th ticks.
-const _: () = prove!(RunOptions::MOST_STEPS == 1099511627776);
+const _: () = prove!(MOST_FIELDS == 16);
+
+const _: () = prove!(MOST_SIZE == 65536);
+
+const _: () = prove!(MOST_ACTIVE == 256);
+
+const _: () = prove!(MOST_CELLS == 65536);
+
+const _: () = prove!(MOST_PRINTED == 65536);
+
+const _: () = prove!(MOST_DEPTH == 64);
+
+const _: () = prove!(MOST_STEPS == 1099511627776);
+
+const _: () = prove!(DEFAULT_STEPS == 1000000);
+
+const _: () = prove!(DEFAULT_ENTRIES == 1048576);

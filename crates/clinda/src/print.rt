@@ -1,6 +1,7 @@
 //! What the command `print` makes of a source.
 
 ghost use Rattle.std.specs.Prelude.{◌≡◌, ◌≤◌, length, IfOk, option_map};
+ghost use Rattle.cl_ground.specs.declared.limits.TheConstants.{MOST_BYTES};
 ghost use Rattle.cl_value.specs.Views.{plain_run};
 ghost use Rattle.clinda.specs.Commands.{Print};
 ghost use Rattle.clinda.specs.Making.{IsSaid, text_saying, Found};
@@ -9,7 +10,8 @@ use crate::front::{FrontEnd, read_source};
 use crate::outcome::{Outcome, Saying};
 use crate::refusal::refuse;
 use crate::text::Text;
-use cl_ast::{NoMemory, Unit};
+use cl_ast::Unit;
+use cl_ground::NoMemory;
 use std::alloc::Global;
 
 // The canonical text of a tree.
@@ -27,7 +29,7 @@ fn saying_of(alloc: Global, unit: &Unit) -> Option<Saying>
 
 /// Prints the canonical text of a source, or refuses it.
 pub fn print_source(alloc: Global, source: &[u8]) -> Outcome
-    requires { length source.now ≤ 1048576 }
+    requires { length source.now ≤ MOST_BYTES }
     ensures { Found Print source.now (option_map plain_run result.report) result.saying }
 {
     match read_source(alloc, source) {

@@ -6,7 +6,7 @@ ghost use Rattle.clinda.specs.Making.{IsSaid, refusal_saying};
 use crate::outcome::{Outcome, Saying};
 use crate::refusal_kind::{Refusal, RefusalKind};
 use crate::text::Text;
-use cl_value::NoMemory;
+use cl_ground::NoMemory;
 use std::alloc::Global;
 
 /// The text of words that spell no command.
@@ -105,38 +105,4 @@ pub fn refuse(alloc: Global, source: &[u8], refusal: Refusal) -> Outcome
     ensures saying { IsSaid result.saying (refusal_saying source.now refusal) }
 {
     Outcome::without_report(saying_of(alloc, source, refusal))
-}
-
-#[cfg(test)]
-mod tests {
-    use super::*;
-    use std::test::Fail;
-
-    #[test]
-    fn places_have_lines_and_columns(rt: HostRuntime) {
-        for (place, expected) in [
-            (0, (1, 1)),
-            (1, (1, 2)),
-            (2, (2, 1)),
-            (3, (2, 2)),
-            (4, (2, 2)),
-        ] {
-            assert_eq!(rt; line_column(b"a\nb", place), expected);
-        }
-        assert_eq!(rt; line_column(b"", 0), (1, 1));
-        assert_eq!(rt; line_column(b"", 1), (1, 1));
-    }
-
-    #[test]
-    fn refusals_are_written(rt: HostRuntime) -> Result<(), Fail> {
-        let refusal = Refusal {
-            kind: RefusalKind::NotBuilt,
-            place: 3,
-        };
-        let text = refusal_text(rt.alloc(), b"a\nb", refusal)?;
-        assert_eq!(rt; text.as_bytes(), b"refused NotBuilt at 2:2\n".as_slice());
-        assert_eq!(rt; words_refused(), b"words refused\n".as_slice());
-        assert_eq!(rt; too_large(), b"refused TooLarge\n".as_slice());
-        Ok(())
-    }
 }

@@ -6,7 +6,8 @@ ghost use Rattle.cl_value.specs.Text as printed;
 ghost use Rattle.cl_listing.specs.Tables.{bytes_of};
 
 use crate::text::Text;
-use cl_value::{Act, End, History, NoMemory, Report, RunReport, Trap, Tuple, Value};
+use cl_ground::NoMemory;
+use cl_value::{Act, End, History, Report, RunReport, Trap, Tuple, Value};
 use std::alloc::Global;
 
 // Puts the bytes of a string literal at the end, as they are printed.

@@ -1,5 +1,4 @@
-use cl_ast::Items;
-use cl_value::NoMemory;
+use cl_ground::{Items, NoMemory};
 use std::alloc::{AllocError, Global};
 use std::marker::Model;
 
@@ -46,7 +45,7 @@ impl Text {
                 self.bytes.push_all(bytes);
                 Ok(())
             }
-            Err(cl_ast::NoMemory) => Err(NoMemory),
+            Err(NoMemory) => Err(NoMemory),
         }
     }
 

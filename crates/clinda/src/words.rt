@@ -4,10 +4,12 @@ ghost use Rattle.clinda.specs.Commands.{Options, AreInRange, Spells, SpellsNone,
 ghost use Rattle.clinda.specs.Words.{words_in};
 ghost use Rattle.clinda.specs.Commanded.{plain_command, plain_options};
 
+use cl_ground::{DEFAULT_ENTRIES, DEFAULT_STEPS, MOST_BYTES, MOST_STEPS};
+
 /// What may be said of a run.
 #[derive(Clone, Copy, Debug, PartialEq, Eq)]
 pub struct RunOptions {
-    /// How many ticks each process may take, where that is said: at most 1,099,511,627,776.
+    /// How many ticks each process may take, where that is said: at most `MOST_STEPS`.
     pub steps: Option<u64>,
 }
 
@@ -16,21 +18,18 @@ impl RunOptions {
     ghost use Rattle.clinda.specs.Commands.{ticks_of, entries_of};
     ghost use Rattle.clinda.specs.Commanded.{plain_options};
 
-    /// The most ticks that may be said: 2 to the 40th.
-    pub const MOST_STEPS: u64 = 1_099_511_627_776;
-
-    /// How many ticks each process may take: 1,000,000 where nothing is said.
+    /// How many ticks each process may take: `DEFAULT_STEPS` where nothing is said.
     pub fn ticks(self) -> u64
         ensures { result ≡ ticks_of (plain_options self) }
     {
-        self.steps.unwrap_or(1_000_000)
+        self.steps.unwrap_or(DEFAULT_STEPS)
     }
 
     /// How many acts each set may have.
     pub fn entries(self) -> u32
         ensures { result ≡ entries_of (plain_options self) }
     {
-        1_048_576
+        DEFAULT_ENTRIES
     }
 }
 
@@ -45,16 +44,17 @@ pub enum Command {
 
 impl Command {
     ghost use Rattle.std.specs.Prelude.{◌≡◌, ◌≤◌};
+    ghost use Rattle.cl_ground.specs.declared.limits.TheConstants.{MOST_BYTES};
     ghost use Rattle.clinda.specs.Commands.{most_bytes};
     ghost use Rattle.clinda.specs.Commanded.{plain_command};
 
     /// The most bytes of a source that it takes.
     pub fn most_bytes(self) -> usize
         ensures value { result ≡ most_bytes (plain_command self) }
-        ensures few { result ≤ 1048576 }
+        ensures few { result ≤ MOST_BYTES }
     {
         match self {
-            Command::Seq { .. } | Command::Print => 1_048_576,
+            Command::Seq { .. } | Command::Print => MOST_BYTES,
         }
     }
 }
@@ -119,7 +119,7 @@ fn steps_of(word: &str) -> Option<u64>
 {
     let number = word.strip_prefix("steps=")?;
     let steps = number_of(number)?;
-    if steps > RunOptions::MOST_STEPS {
+    if steps > MOST_STEPS {
         return None;
     }
     Some(steps)
@@ -141,96 +141,4 @@ fn number_of(word: &str) -> Option<u64>
         return None;
     }
     word.parse().ok()
-}
-
-#[cfg(test)]
-mod tests {
-    use super::*;
-    use std::alloc::Global;
-    use std::test::Fail;
-
-    // What these words spell.
-    fn spelled(alloc: Global, texts: &[&str]) -> Result<Option<Command>, Fail> {
-        let mut words = Vec::new(alloc);
-        for text in texts {
-            words.push(text.to_string(alloc)?)?;
-        }
-        Ok(command_of(words.as_slice()))
-    }
-
-    fn run(seed: u64, steps: Option<u64>) -> Command {
-        Command::Seq {
-            seed,
-            options: RunOptions { steps },
-        }
-    }
-
-    #[test]
-    fn words_spell_a_command(rt: HostRuntime) -> Result<(), Fail> {
-        let alloc = rt.alloc();
-        for (number, seed) in [
-            ("0", 0),
-            ("7", 7),
-            ("18446744073709551615", 18446744073709551615),
-        ] {
-            assert_eq!(rt; spelled(alloc, &["seq", number])?, Some(run(seed, None)));
-        }
-        for (word, steps) in [
-            ("steps=0", 0),
-            ("steps=5", 5),
-            ("steps=1000000", 1_000_000),
-            ("steps=1099511627776", 1_099_511_627_776),
-        ] {
-            assert_eq!(rt;
-                spelled(alloc, &["seq", "1", word])?,
-                Some(run(1, Some(steps)))
-            );
-        }
-        assert_eq!(rt; spelled(alloc, &["print"])?, Some(Command::Print));
-        Ok(())
-    }
-
-    #[test]
-    fn other_words_spell_none(rt: HostRuntime) -> Result<(), Fail> {
-        let alloc = rt.alloc();
-        for number in [
-            "",
-            "01",
-            "00",
-            "+1",
-            "-1",
-            "1x",
-            " 1",
-            "18446744073709551616",
-        ] {
-            assert_eq!(rt; spelled(alloc, &["seq", number])?, None);
-        }
-        assert_eq!(rt; spelled(alloc, &[])?, None);
-        assert_eq!(rt; spelled(alloc, &["seq"])?, None);
-        assert_eq!(rt; spelled(alloc, &["Seq", "1"])?, None);
-        assert_eq!(rt; spelled(alloc, &["seq", "1", "2"])?, None);
-        assert_eq!(rt; spelled(alloc, &["Print"])?, None);
-        for word in [
-            "",
-            "steps",
-            "steps=",
-            "steps=01",
-            "steps=+1",
-            "steps=-1",
-            "steps=1099511627777",
-            "Steps=1",
-            " steps=1",
-            "steps=1 ",
-            "entries=1",
-            "trace",
-        ] {
-            assert_eq!(rt; spelled(alloc, &["seq", "1", word])?, None, "{word}");
-        }
-        assert_eq!(rt; spelled(alloc, &["seq", "1", "steps=1", "steps=1"])?, None);
-        assert_eq!(rt; spelled(alloc, &["seq", "steps=1", "1"])?, None);
-        assert_eq!(rt; spelled(alloc, &["print", "steps=1"])?, None);
-        assert_eq!(rt; spelled(alloc, &["print", "1"])?, None);
-        assert_eq!(rt; spelled(alloc, &["print", ""])?, None);
-        Ok(())
-    }
 }

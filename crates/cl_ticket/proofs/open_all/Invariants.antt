@@ -1,7 +1,7 @@
 use Rattle.std.proofs.Common.{◌≡◌, vec_len, []}
 use Rattle.std.specs.Prelude.{vec_capacity}
 use Rattle.cl_ticket.specs.Rule.{opening_view}
-use Rattle.cl_ticket.specs.Tokens.{new_places}
+use Rattle.cl_ticket.specs.Tokens.{new_set_tokens}
 use Rattle.cl_ticket.proofs.open_all.Given as goal
 
 abbrev pub invariant-loop-number : goal.invariant-loop-number
@@ -10,5 +10,5 @@ invariant-loop-number g l = record {
   room : vec_capacity l.seats ≡ vec_capacity l.initial.seats;
   opener : l.opener.me ≡ (opening_view l.number, []);
   table : l.opener.table_id ≡ l.initial.opener.table_id;
-  places : l.seats.items ≡ new_places l.number;
+  tokens : l.seats.items ≡ new_set_tokens l.number;
 }

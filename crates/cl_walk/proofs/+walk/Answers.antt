@@ -18,7 +18,7 @@ use Rattle.cl_walk.specs.Views.{scope_in, aims_of, aim_of, exit_of}
 use Rattle.cl_meaning.specs.Parts.{chain_value, link_value, field_aim, field_part, call_part, if_exit, while_exit, do_exit, for_exit, while_turn, do_turn, for_turns, for_turn, new_value}
 use Rattle.std.specs.Prelude.{not, Ok, Err, option_map}
 use Rattle.cl_model.specs.Numbers.{truth}
-use Rattle.cl_value.specs.Room.{Room}
+use Rattle.cl_ground.specs.Room.{Room}
 use Rattle.cl_value.specs.LiveViews.{plain_part}
 use Rattle.cl_value.specs.declared.live.LiveField.{LiveField}
 use Rattle.cl_walk.specs.declared.field.Aim.{Aim}

@@ -1,7 +1,7 @@
 use Rattle.std.proofs.Common.{[], ◌∷◌, ◌++◌, Option, ℕ, ap, ◌∙◌, subst, refl}
 use Rattle.cl_keyed.proofs.Fulls.{full-pushed, full-started}
 use Rattle.cl_keyed.proofs.Rooms.{key_in-within, pushed, started}
-use Rattle.cl_value.specs.Room.{Room}
+use Rattle.cl_ground.specs.Room.{Room}
 use Rattle.cl_keyed.specs.Rows.{Row}
 use Rattle.cl_keyed.specs.Tables.{RoomFor, items_at}
 use Rattle.cl_keyed.proofs.room.put.Goals as goal

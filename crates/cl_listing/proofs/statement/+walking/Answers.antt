@@ -1,4 +1,4 @@
-use Rattle.std.proofs.Common.{◌≡◌, ◌∙◌, ◌++◌, ap, refl, subst, arith}
+use Rattle.std.proofs.Common.{◌∙◌, ◌++◌, ap, refl, arith}
 use Rattle.cl_ast.specs.declared.statement.If.{out-If}
 use Rattle.cl_ast.specs.declared.statement.While.{out-While}
 use Rattle.cl_ast.specs.declared.statement.Do.{out-Do}

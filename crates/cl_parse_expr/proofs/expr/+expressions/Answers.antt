@@ -1,4 +1,4 @@
-use Rattle.std.proofs.Common.{◌≡◌, ◌++◌, [], ◌∷◌, List, Ok, sym, ap, subst, ◌∙◌}
+use Rattle.std.proofs.Common.{◌++◌, Ok, sym, ap, ◌∙◌}
 use Rattle.cl_rules.specs.Unroll.{onwards}
 use Rattle.cl_parse_expr.specs.Steps.{plain_tokens}
 use Rattle.cl_parse_expr.specs.Readings.{links_reading, arguments_reading, fields_reading}

@@ -1,4 +1,4 @@
-use Rattle.std.proofs.Common.{◌-◌, subst, sym}
+use Rattle.std.proofs.Common.{◌-◌, subst}
 use Rattle.cl_rules.specs.Rules.{Syntax, TooDeep}
 use Rattle.cl_ast.specs.Grammar as parts
 use Rattle.cl_parse_expr.specs.Steps.{plain_tokens, reading, FailsAs}

@@ -1,5 +1,5 @@
 use Rattle.std.proofs.Common.{List, [], ◌∷◌, ap, sym, subst, arith, length, length-append}
-use Rattle.cl_value.specs.Room.{Room}
+use Rattle.cl_ground.specs.Room.{Room}
 use Rattle.cl_value.specs.declared.value.Value.{Value}
 use Rattle.cl_vm.specs.Parts.{AreWide}
 use Rattle.cl_vm.proofs.PartFilling.{wide_append}

@@ -1,5 +1,5 @@
 use Rattle.std.proofs.Common.{ap, arith, length, map, refl}
-use Rattle.cl_value.specs.Room.{Room}
+use Rattle.cl_ground.specs.Room.{Room}
 use Rattle.cl_value.specs.declared.live.LiveField.{LiveField}
 use Rattle.cl_code.specs.Plain.{plain_function}
 use Rattle.cl_vm.proofs.Filling.{any}

@@ -1,7 +1,7 @@
 use Rattle.std.proofs.Common.{◌∙◌, ap, arith, length}
 use Rattle.std.specs.List.{list_all}
 use Rattle.cl_value.specs.Matching.{may_stand}
-use Rattle.cl_value.specs.Room.{Room}
+use Rattle.cl_ground.specs.Room.{Room}
 use Rattle.cl_value.specs.declared.template.Slot.{Slot}
 use Rattle.cl_vm.proofs.Filling.{any, template_is}
 use Rattle.cl_vm.proofs.requests.template_of.Goals as goal

@@ -1,6 +1,6 @@
 use Rattle.std.proofs.Common.{◌≡◌, ◌∙◌, ap, sym, get_or, ◌∷◌, [], ◌++◌}
 use Rattle.std.specs.Prelude.{pos}
-use Rattle.cl_value.specs.declared.items.Items.{Items}
+use Rattle.cl_ground.specs.declared.items.Items.{Items}
 use Rattle.cl_value.specs.declared.value.Value.{Value}
 use Rattle.cl_value.specs.declared.value.Value.TheVariants.{Int}
 use Rattle.cl_meaning.specs.Calls.{arguments}

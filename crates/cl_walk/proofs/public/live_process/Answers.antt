@@ -1,6 +1,6 @@
 use Rattle.std.proofs.Common.{List, map, ap}
 use Rattle.std.specs.Prelude.{Ok, Err}
-use Rattle.cl_value.specs.Room.{Room}
+use Rattle.cl_ground.specs.Room.{Room}
 use Rattle.cl_value.specs.LiveViews.{plain_part, plain_live}
 use Rattle.cl_value.specs.declared.value.Value.{Value}
 use Rattle.cl_meaning.specs.Process as meaning

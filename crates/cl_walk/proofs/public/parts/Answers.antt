@@ -1,7 +1,7 @@
 use Rattle.cl_value.specs.LiveViews.{plain_part}
 use Rattle.std.proofs.Common.{◌≡◌, ◌∙◌, ap, refl, List, [], ◌∷◌, ◌++◌, map}
 use Rattle.std.specs.Prelude.{Ok, Err}
-use Rattle.cl_value.specs.Room.{Room}
+use Rattle.cl_ground.specs.Room.{Room}
 use Rattle.cl_value.specs.declared.value.Value.{Value}
 use Rattle.cl_value.specs.declared.live.LiveField.{LiveField}
 use Rattle.cl_meaning.specs.Operations.{Does}

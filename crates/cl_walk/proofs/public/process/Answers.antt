@@ -1,5 +1,5 @@
 use Rattle.std.proofs.Common.{List}
-use Rattle.cl_value.specs.Room.{Room}
+use Rattle.cl_ground.specs.Room.{Room}
 use Rattle.cl_value.specs.declared.value.Value.{Value}
 use Rattle.cl_walk.specs.Walks.{point}
 use Rattle.cl_walk.proofs.Processes.{process_main, process_live}

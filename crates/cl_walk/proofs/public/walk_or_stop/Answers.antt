@@ -1,6 +1,6 @@
 use Rattle.std.proofs.Common.{◌≡◌, ◌∙◌, ap, subst, List, []}
 use Rattle.std.specs.Prelude.{Ok}
-use Rattle.cl_value.specs.Room.{Room}
+use Rattle.cl_ground.specs.Room.{Room}
 use Rattle.cl_value.specs.Views.{plain_start}
 use Rattle.cl_value.specs.declared.value.Value.{Value}
 use Rattle.cl_ast.specs.declared.statement.Unit.{Unit}

@@ -3,7 +3,7 @@ use Rattle.std.proofs.lemmas.Option.{slice_get-get_or}
 use Rattle.std.specs.Prelude.{slice_get}
 use Rattle.cl_store.proofs.Matches.{view_within, view_found}
 use Rattle.cl_value.specs.Replay.{first_match, found}
-use Rattle.cl_value.specs.Room.{Room}
+use Rattle.cl_ground.specs.Room.{Room}
 use Rattle.cl_keyed.proofs.Places.{tuples-of_rows}
 use Rattle.cl_keyed.specs.DatedRows.{values_of}
 use Rattle.cl_keyed.specs.Rows.{Row, tuple_of}

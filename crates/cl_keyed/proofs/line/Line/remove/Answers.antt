@@ -1,6 +1,6 @@
 use Rattle.std.proofs.Common.{map, remove, ap, ◌∙◌}
 use Rattle.cl_store.proofs.Matches.{map-remove}
-use Rattle.cl_value.specs.Room.{Room}
+use Rattle.cl_ground.specs.Room.{Room}
 use Rattle.cl_keyed.proofs.Places.{on-some}
 use Rattle.cl_keyed.specs.DatedRows.{row_of}
 use Rattle.cl_keyed.specs.Rows.{Row}

@@ -1,5 +1,5 @@
 use Rattle.std.proofs.Common.{rules, ◌≡◌, ◌==◌, true, false, length, List, ap, sym, ◌∙◌, subst}
-use Rattle.cl_value.specs.Room.{Room}
+use Rattle.cl_ground.specs.Room.{Room}
 use Rattle.cl_keyed.specs.declared.key.Key.{Key}
 use Rattle.cl_keyed.proofs.Fulls.{gone-full, full-all}
 use Rattle.cl_keyed.proofs.Swaps.{gone}

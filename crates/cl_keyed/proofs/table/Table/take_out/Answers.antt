@@ -1,6 +1,6 @@
 use Rattle.std.proofs.Common.{◌<◌, length, List, sym, ◌∙◌, subst}
 use Rattle.indexmap.specs.Layout.{length-set_value_at}
-use Rattle.cl_value.specs.Room.{Room}
+use Rattle.cl_ground.specs.Room.{Room}
 use Rattle.cl_keyed.proofs.Fulls.{full-set_but}
 use Rattle.cl_keyed.specs.Tables.{FullBut}
 use Rattle.cl_keyed.proofs.Rooms.{taken_out}

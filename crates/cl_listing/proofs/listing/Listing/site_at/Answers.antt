@@ -1,4 +1,4 @@
-use Rattle.std.proofs.Common.{◌≡◌, ◌∙◌, ap}
+use Rattle.std.proofs.Common.{◌∙◌, ap}
 use Rattle.cl_listing.specs.Listed.{Listed}
 use Rattle.cl_listing.specs.Tables.{number_of}
 use Rattle.cl_listing.proofs.Numbers.{finds_site, numbers_site}

@@ -1,4 +1,4 @@
-use Rattle.std.proofs.Common.{◌≡◌, ◌∙◌, ap, List, ℕ, is_some, length, subst}
+use Rattle.std.proofs.Common.{◌≡◌, ◌∙◌, ap, length, subst}
 use Rattle.std.specs.Prelude.{unwrap_or}
 use Rattle.cl_listing.specs.Listing.{is_among, text_number}
 use Rattle.cl_listing.specs.Listed.{Listed}

@@ -1,5 +1,5 @@
 use Rattle.std.proofs.Common.{◌≡◌, take}
-use Rattle.cl_value.specs.Room.{capacity_of}
+use Rattle.cl_ground.specs.Room.{capacity_of}
 use Rattle.cl_value.proofs.tuple.Tuple.refill.Given as goal
 
 abbrev pub invariant-loop-i : goal.invariant-loop-i

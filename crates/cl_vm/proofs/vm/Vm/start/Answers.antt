@@ -2,7 +2,7 @@ use Rattle.std.proofs.Common.{◌≡◌, ◌∙◌, ap, sym, subst, true}
 use Rattle.std.specs.Prelude.{map}
 use Rattle.cl_value.specs.LiveViews.{plain_live, plain_part}
 use Rattle.cl_value.specs.Plain.{Lives}
-use Rattle.cl_value.specs.Room.{Room}
+use Rattle.cl_ground.specs.Room.{Room}
 use Rattle.cl_value.specs.Views.{plain_start}
 use Rattle.cl_value.specs.declared.live.LiveField.{LiveField}
 use Rattle.cl_value.specs.declared.process.Start.{Start}

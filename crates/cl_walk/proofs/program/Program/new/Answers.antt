@@ -17,7 +17,7 @@ invariant_of-result c =
     let kept : Bor (List ℕ) → Option ℕ = get (λ a b. pointwise nat_eq a.now b.now) c.add_items.new.places in
     let none : AreListed c.in_ok-scope.scope [] c.new-functions.result.items (get (λ a b. pointwise nat_eq a.now b.now) c.new-places.result) = (subst (AreCallables c.in_ok-scope.scope 0 []) (sym c.new-functions.ensures.items) tt, λ name. search rules) in
     let listed = subst (λ (s : Scope). AreListed s (functions_of xs) c.add_items.new.functions.items kept) scope (subst (λ (ys : List Item). AreListed c.in_ok-scope.scope (functions_of ys) c.add_items.new.functions.items kept) same (c.in_ok-add_items.ensures none)) in (
-      c.in_ok-listing.ensures,
+      c.requires,
       scope,
       c.global_cells-cells.ensures ∙ (ap (λ (s : Scope). capped (global_cells (size_in s) c.as_slice-items.result.now)) scope ∙ ap (λ ys. capped (global_cells (size_in (outer xs)) ys)) same),
       listed.0,

@@ -1,4 +1,0 @@
-use Rattle.cl_list.proofs.listed.tests.asks_are_played.Given as goal
-
-abbrev pub ghosts-check_plays : goal.ghosts-check_plays
-ghosts-check_plays g a = record { name = a.blank.name; parts = a.blank.parts }

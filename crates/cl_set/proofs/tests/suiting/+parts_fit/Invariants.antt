@@ -1,5 +1,0 @@
-use Rattle.std.proofs.Common.{length}
-use Rattle.cl_set.proofs.tests.suiting.+parts_fit.Given as goal
-
-abbrev pub decreases-parts_fit : goal.decreases-parts_fit
-decreases-parts_fit l = length l.marks.now

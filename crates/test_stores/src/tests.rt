@@ -1,0 +1,3 @@
+mod outside;
+mod stores;
+mod values;

@@ -1,6 +1,0 @@
-use Rattle.std.proofs.Common.{[], ◌∷◌}
-use Rattle.ticket_bench.proofs.Shapes.{shape}
-use Rattle.ticket_bench.proofs.answer.Given as goal
-
-abbrev pub ghosts-run : goal.ghosts-run
-ghosts-run g a = record { table = a.blank.table; shapes = shape ∷ shape ∷ shape ∷ shape ∷ []; entries = 16777216 }

@@ -1,6 +1,0 @@
-use Rattle.std.proofs.Common.{refl}
-use Rattle.vm_tests.proofs.TestRows.{is_right_by, three_functions}
-use Rattle.vm_tests.proofs.tests.live.evaluates.Goals as goal
-
-pub program_of-requires : goal.program_of-requires
-program_of-requires c = is_right_by _ _ _ _ _ _ _ _ _ _ (three_functions _ c.in_ok-functions.ensures c.in_ok-main.ensures c.in_ok-g.ensures c.in_ok-h.ensures) c.in_ok-producer.ensures c.in_ok-consumer.ensures refl

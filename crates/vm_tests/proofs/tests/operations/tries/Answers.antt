@@ -1,6 +1,0 @@
-use Rattle.std.proofs.Common.{refl}
-use Rattle.vm_tests.proofs.TestRows.{is_right_by, one_function}
-use Rattle.vm_tests.proofs.tests.operations.tries.Goals as goal
-
-pub program_of-requires : goal.program_of-requires
-program_of-requires c = is_right_by _ _ _ _ _ _ _ _ _ _ (one_function _ c.in_ok-functions.ensures c.in_ok-main.ensures) c.in_ok-producer.ensures c.in_ok-consumer.ensures refl

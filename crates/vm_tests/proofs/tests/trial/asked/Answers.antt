@@ -1,7 +1,0 @@
-use Rattle.vm_tests.proofs.Trying.{stands_there}
-use Rattle.vm_tests.proofs.tests.trial.asked.Goals as goal
-
-pub request-requires : goal.request-requires
-request-requires c =
-    let (start, after) = c.requires in
-    stands_there start _ c.args.vm.now after.answers
