@@ -7,7 +7,7 @@
 mod programs;
 
 ghost use Rattle.std.specs.Prelude.{◌≡◌, IsTrue};
-ghost use Rattle.cl_value.specs.declared.process.Reply.TheVariants as replied;
+ghost use Rattle.cl_vm.specs.declared.vm.Reply.TheVariants as replied;
 ghost use Rattle.cl_value.specs.Views.{plain_start};
 ghost use Rattle.cl_code.specs.Starts.{start_fits};
 ghost use Rattle.cl_value.specs.Plain.{PlainStart};
@@ -17,13 +17,13 @@ ghost use Rattle.cl_vm.specs.Trials.{StandsAfter, StandsNew};
 use crate::programs::Measured;
 use cl_code::Program;
 use cl_ground::{MOST_STEPS, NoMemory};
-use cl_value::{Limits, Reply, Start, Value};
-use cl_vm::{Demand, Vm};
+use cl_value::{Limits, Start, Value};
+use cl_vm::{Demand, Reply, Vm};
 use std::alloc::Global;
 use std::{env, io};
 
 // Begins a process.
-fn begin_by(vm: &mut Vm, program: &Program, reply: &Reply) -> Demand
+fn begin_by(vm: &mut Vm, program: &Program, reply: &Reply<'_>) -> Demand
     requires begins { reply.now ≡ replied.Begin }
     requires new { (start : PlainStart) × StandsNew (plain_program program.now) start vm.old }
     ensures { (start : PlainStart) × StandsAfter (plain_program program.now) start result vm.new }

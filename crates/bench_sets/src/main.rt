@@ -7,12 +7,12 @@ ghost use Rattle.std.specs.Prelude.{◌≡◌, ◌+◌, ◌<◌, ◌≤◌, [], 
 ghost use Rattle.cl_value.specs.Views.{plain_request};
 ghost use Rattle.cl_value.specs.declared.value.FieldType.TheVariants as types;
 ghost use Rattle.cl_value.specs.declared.value.Value.TheVariants as values;
+ghost use Rattle.cl_sig.specs.Storable.{class_allows};
 ghost use Rattle.cl_sig.specs.Suits.{suits};
 ghost use Rattle.cl_sig.specs.Views.{plain_shape};
 ghost use Rattle.cl_sig.specs.declared.shape.Class.TheVariants as classes;
 ghost use Rattle.cl_sig.specs.declared.signature.Mark.TheVariants as marks;
-ghost use Rattle.cl_set.specs.Conditions.{class_allows};
-ghost use Rattle.cl_set.specs.Keeping.{IsAbove};
+ghost use Rattle.cl_value.specs.Tickets.{IsAbove};
 ghost use Rattle.bench_sets.specs.Sets.{shape_of};
 
 use cl_ground::{Items, NoMemory};

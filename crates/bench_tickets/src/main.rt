@@ -53,7 +53,7 @@ impl<K: Plan> Lane<K> {
                 return Err(NoMemory);
             }
         }
-        leave(tickets, &mut set, false);
+        leave(tickets, &mut set);
         Ok(drawn.len())
     }
 }
@@ -91,7 +91,7 @@ fn lanes<K: Plan>(
     let one = child_of(tickets, &mut first, eval);
     let two = child_of(tickets, &mut first, eval);
     let three = child_of(tickets, &mut first, eval);
-    let main = leave(tickets, &mut first, false);
+    let main = leave(tickets, &mut first);
     Some((
         Lane {
             set: first,

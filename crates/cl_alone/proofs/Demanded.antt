@@ -4,7 +4,7 @@ use Rattle.std.specs.Prelude.{map, unwrap_or, option_to_list}
 use Rattle.std.specs.List.{AllByRecursion}
 use Rattle.cl_value.specs.Acts.{request_of, reply_of, is_eval}
 use Rattle.cl_value.specs.Plain.{PlainWhat, DidOut, DidIn, DidRd, InpHit, InpMiss, RdpHit, RdpMiss, DidEval, DidLand, PlainAct, PlainReply, Main, Done}
-use Rattle.cl_value.specs.Replay.{replayed, TakesOldest, OldestFrom}
+use Rattle.cl_value.specs.Replay.{replayed, TakesOldest, OldestFrom, MissesRightly, MissesFrom}
 use Rattle.cl_value.specs.declared.value.Value.{Value}
 use Rattle.cl_model.specs.Alone.{IsOwn, replies_in}
 use Rattle.cl_model.specs.Demand.{Demands, Demand, Outcome, Wants}
@@ -12,11 +12,13 @@ use Rattle.cl_model.specs.Laws.{Answers}
 use Rattle.cl_model.specs.Machine.{State, MayCome, BagAllows, DemandAllows, NameAllows, StepsFrom, changed, first, is_land, Legal}
 use Rattle.cl_model.specs.Bag.{Bag}
 use Rattle.cl_model.proofs.Matches.{found_matches}
-use Rattle.cl_model.proofs.Bags.{Counts, counts_at_first, counts_after, holds_found, none_found}
+use Rattle.cl_model.proofs.Bags.{counts_at_first, counts_after, holds_found}
+use Rattle.cl_model.proofs.Answering.{nothing_matches}
+use Rattle.cl_model.specs.Counting.{Counts}
 use Rattle.cl_model.proofs.Alone.{IsAlone, main_after, alone_at_first, alone_after_act}
 use Rattle.cl_walk.specs.Walks.{Told}
 use Rattle.cl_walk.specs.Walked.{AreDemanded, behind, replies_of}
-use Rattle.cl_alone.specs.Moment.{Moment, MissesRightly, MissesFrom, IsHistory}
+use Rattle.cl_alone.specs.Moment.{Moment, IsHistory}
 use Rattle.cl_alone.specs.Pauses.{told_of}
 
 -- what an act that takes the oldest match, or misses rightly, needs of the bag
@@ -25,9 +27,9 @@ allowed bag ts (DidOut t) h o m = tt
 allowed bag ts (DidIn q t) h o m = (found_matches ts q t o, holds_found bag ts q t h o)
 allowed bag ts (DidRd q t) h o m = (found_matches ts q t o, holds_found bag ts q t h o)
 allowed bag ts (InpHit q t) h o m = (found_matches ts q t o, holds_found bag ts q t h o)
-allowed bag ts (InpMiss q) h o m = none_found bag ts q h m
+allowed bag ts (InpMiss q) h o m = nothing_matches bag ts q h m
 allowed bag ts (RdpHit q t) h o m = (found_matches ts q t o, holds_found bag ts q t h o)
-allowed bag ts (RdpMiss q) h o m = none_found bag ts q h m
+allowed bag ts (RdpMiss q) h o m = nothing_matches bag ts q h m
 allowed bag ts (DidEval live) h o m = tt
 allowed bag ts (DidLand t) h o m = tt
 

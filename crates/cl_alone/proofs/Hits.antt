@@ -2,11 +2,11 @@
 use Rattle.std.proofs.Common.{◌≡◌, ℕ, ◌<◌, false, List, [], ◌∷◌, ◌++◌, length, Some, refl, ap, ◌∙◌}
 use Rattle.cl_value.specs.Acts.{ask_of, reply_of, is_eval}
 use Rattle.cl_value.specs.Plain.{PlainAct, Got}
-use Rattle.cl_value.specs.Replay.{found, replayed, TakesOldest}
+use Rattle.cl_value.specs.Replay.{found, replayed, TakesOldest, MissesRightly}
 use Rattle.cl_value.specs.declared.value.Value.{Value}
 use Rattle.cl_value.specs.declared.template.Slot.{Slot}
 use Rattle.cl_model.specs.Machine.{is_land}
-use Rattle.cl_alone.specs.Moment.{Moment, next_act, MissesRightly, Did}
+use Rattle.cl_alone.specs.Moment.{Moment, next_act, Did}
 use Rattle.cl_alone.specs.Seekings.{ask_by, request_by, hit}
 use Rattle.cl_alone.specs.declared.seeking.Seeking.{Seeking}
 use Rattle.cl_alone.specs.declared.seeking.Seeking.TheVariants as seekings

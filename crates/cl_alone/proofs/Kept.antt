@@ -4,7 +4,7 @@ use Rattle.std.specs.Prelude.{map}
 use Rattle.std.proofs.lemmas.List.{length_push, map_push}
 use Rattle.cl_value.specs.Acts.{reply_of, ask_of, fits, is_eval}
 use Rattle.cl_value.specs.Plain.{PlainWhat, DidOut, DidIn, DidRd, InpHit, InpMiss, RdpHit, RdpMiss, DidEval, DidLand, PlainAct, PlainRequest, PlainReply, Done, Got, Miss}
-use Rattle.cl_value.specs.Replay.{replayed, replay_from, TakesOldest}
+use Rattle.cl_value.specs.Replay.{replayed, replay_from, TakesOldest, MissesRightly, MissesFrom}
 use Rattle.cl_value.specs.declared.value.Value.{Value}
 use Rattle.cl_model.specs.Alone.{IsOwn}
 use Rattle.cl_model.proofs.Matches.{found_matches}
@@ -12,7 +12,7 @@ use Rattle.cl_model.proofs.Histories.{numbered_push, replay_push, oldest_push}
 use Rattle.cl_model.proofs.Alone.{own_push}
 use Rattle.cl_walk.specs.Walked.{IsAnswered}
 use Rattle.cl_alone.specs.declared.pause.Pause.{Pause}
-use Rattle.cl_alone.specs.Moment.{Moment, beginning, next_act, after_act, MissesRightly, MissesFrom, Did, IsHistory}
+use Rattle.cl_alone.specs.Moment.{Moment, beginning, next_act, after_act, Did, IsHistory}
 use Rattle.cl_alone.specs.Pauses.{IsSound, told_of, said_of}
 use Rattle.cl_alone.specs.Performing.{IsDone}
 

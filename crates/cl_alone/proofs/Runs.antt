@@ -4,7 +4,7 @@ use Rattle.std.specs.Prelude.{Contains, ◌==◌}
 use Rattle.std.specs.List.{AllByRecursion, range_with_len}
 use Rattle.std.proofs.lemmas.Bool.{eq-eqb}
 use Rattle.std.proofs.lemmas.List.FromFn.{length-range_with_len, get_or-range_with_len}
-use Rattle.cl_value.specs.Acts.{names_made}
+use Rattle.cl_value.specs.Acts.{names_made, is_site_of}
 use Rattle.cl_value.specs.Plain.{Main, PlainRequest, PlainAct, PlainAsk, Out, In, Rd, Inp, Rdp, Eval, Land, PlainEnd, Ended, Trapped, NoThread, HistoryFull, NoMemory, Stopped, Waiting}
 use Rattle.cl_value.specs.Replay.{Oldest}
 use Rattle.cl_value.specs.Tickets.{NumberedFrom, by_ticket}
@@ -15,15 +15,17 @@ use Rattle.cl_model.specs.Demand.{Demands, Demand, Outcome, Wants, Finishes, Tra
 use Rattle.cl_model.specs.Ends.{Stuck, GoesOn, is_over, Waits, AskWaits}
 use Rattle.cl_model.specs.Good.{Turns, OutputAgrees, HistoriesAre, AllEnded, SomeWait, WithFailure, EndsAgree, some_failure, is_failure, status_of, IsHaltedBy}
 use Rattle.cl_model.specs.Machine.{Legal, Process, after, demand_of}
-use Rattle.cl_model.specs.Meaning.{Meaning, is_site_of, acts_at, WantsAt}
-use Rattle.cl_model.specs.Runs.{IsAtFull, EndIs, FullEnds, GoodReport, IsWithin, GoodRun}
+use Rattle.cl_model.specs.Meaning.{Meaning, acts_at, WantsAt}
+use Rattle.cl_model.specs.Runs.{IsAtFull, EndIs, FullEnds, GoodReport, IsWithinLimit, GoodRun}
 use Rattle.cl_model.proofs.Alone.{main_after, alone, acts_of_own, names_of_own}
-use Rattle.cl_model.proofs.Bags.{Counts, counts_at_first, counts_from, holds_found, none_found}
+use Rattle.cl_model.proofs.Bags.{counts_at_first, counts_from, holds_found}
+use Rattle.cl_model.proofs.Answering.{waits_on_bag}
+use Rattle.cl_model.specs.Counting.{Counts}
 use Rattle.cl_model.proofs.Histories.{by_ticket_one}
 use Rattle.cl_model.proofs.Matches.{found_matches}
 use Rattle.cl_alone.specs.Leaving.{Leaves}
 use Rattle.cl_alone.specs.Moment.{Moment, IsHistory}
-use Rattle.cl_alone.specs.Pauses.{WaitsOn, GoesOn as Goes, IsFullAt}
+use Rattle.cl_alone.specs.Pauses.{GoesOn as Goes, IsFullAt}
 use Rattle.cl_alone.specs.Reports.{status_at, one_history, report_of, run_of}
 use Rattle.cl_alone.specs.Sets.{one_set}
 use Rattle.cl_alone.proofs.Demanded.{legal}
@@ -62,7 +64,7 @@ histories_are : (n : ℕ) (acts : List PlainAct) → AllByRecursion (IsOwn n) ac
 histories_are zero acts own = tt
 histories_are (suc n) acts own = (refl, sites_are (suc n) acts own, tt)
 
-are_within : (n limit : ℕ) (acts : List PlainAct) → length acts ≤ limit → AllByRecursion (IsWithin limit) (one_history n acts)
+are_within : (n limit : ℕ) (acts : List PlainAct) → length acts ≤ limit → AllByRecursion (IsWithinLimit limit) (one_history n acts)
 are_within zero limit acts few = tt
 are_within (suc n) limit acts few = (few, tt)
 
@@ -77,11 +79,6 @@ first_set (suc n) zero site h = refl
 first_set (suc n) (suc set) site h = absurd cc
 
 -- ---- what waits, and what doesn't
-
-waits_so : (bag : Bag) (ts : List (List Value)) (ask : PlainAsk) → Counts bag ts → WaitsOn ts ask → AskWaits bag ask
-waits_so bag ts (In m) h w = none_found bag ts m h w
-waits_so bag ts (Rd m) h w = none_found bag ts m h w
-waits_so bag ts _ h w = absurd w
 
 never_waits : (bag : Bag) (ts : List (List Value)) (ask : PlainAsk) → Counts bag ts → Goes ts ask → AskWaits bag ask → ⊥
 never_waits bag ts (In m) h g w = omega (arith, w g.0 (found_matches ts m g.0 g.1), holds_found bag ts m g.0 h g.1)
@@ -232,7 +229,7 @@ leaves_good demands m output Waiting l =
     let d = legal demands m l.history l.demanded in
     let request = l.ends.0 in
     let now = l.at_last ∙ ap (λ o. record { output = output; outcome = o }) l.ends.1 in
-    let waits : AskWaits (after m.acts).bag request.ask = waits_so (after m.acts).bag m.tuples request.ask (counts demands m output (Wants request) l.history now) l.ends.2 in
+    let waits : AskWaits (after m.acts).bag request.ask = waits_on_bag (after m.acts).bag m.tuples request.ask (counts demands m output (Wants request) l.history now) l.ends.2 in
     good_run demands m output (Wants request) l.history now Waiting d
     (good_report demands m output (Wants request) l.history now Waiting (record { no_trap = λ t e. cc; not_over = refl }) (wants_nothing demands m output (Wants request) l.history now Waiting (λ site w. w.1 waits)) refl)
     (SomeWait tt (is_stuck demands m output (Wants request) l.history now refl waits) refl (tt, tt))

@@ -1,5 +1,6 @@
 -- How a run of one process ends. (This project.)
-use Rattle.std.specs.Prelude.{ℕ, ◌≡◌, List, map, Option, Some, None}
+use Rattle.std.specs.Prelude.{ℕ, ◌≡◌, true, List, map, Option, Some, None}
+use Rattle.cl_value.specs.Answers.{waits}
 use Rattle.cl_value.specs.Plain.{Main, PlainEnd, Ended, Trapped, HistoryFull, NoMemory, Waiting, PlainRequest}
 use Rattle.cl_model.specs.Alone.{replies_in}
 use Rattle.cl_model.specs.Demand.{Demands, Outcome, Wants, Finishes, Traps}
@@ -7,7 +8,7 @@ use Rattle.cl_walk.specs.Walked.{AreDemanded}
 use Rattle.cl_walk.specs.declared.public.Ending.{Ending}
 use Rattle.cl_walk.specs.declared.public.Ending.TheVariants as endings
 use Rattle.cl_alone.specs.Moment.{Moment, IsHistory}
-use Rattle.cl_alone.specs.Pauses.{WaitsOn, IsFullAt, told_of}
+use Rattle.cl_alone.specs.Pauses.{IsFullAt, told_of}
 use Rattle.cl_alone.specs.declared.pause.Pause.{Pause}
 use Rattle.cl_alone.specs.declared.pause.Why.{Why}
 use Rattle.cl_alone.specs.declared.pause.Why.TheVariants as whys
@@ -36,7 +37,7 @@ EndsSo m outcome (Ended values) = outcome ≡ Finishes values
 EndsSo m outcome (Trapped trap) = outcome ≡ Traps trap
 EndsSo m outcome (HistoryFull set) = (set ≡ 0) × ((request : PlainRequest) × (outcome ≡ Wants request) × IsFullAt m request)
 EndsSo m outcome NoMemory = Unit {0}
-EndsSo m outcome Waiting = (request : PlainRequest) × (outcome ≡ Wants request) × WaitsOn m.tuples request.ask
+EndsSo m outcome Waiting = (request : PlainRequest) × (outcome ≡ Wants request) × (waits m.tuples request.ask ≡ true)
 EndsSo m outcome _ = ⊥
 
 -- Process 0 has left off at a moment, with this output and this end: its acts are a history, each was demanded, and after all replies it demands

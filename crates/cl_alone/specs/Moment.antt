@@ -1,9 +1,9 @@
 -- The tuples of a run of one process at a moment, and what an operation makes of them. (This project.)
-use Rattle.std.specs.Prelude.{ℕ, ◌+◌, ◌<◌, ◌≤◌, ◌≡◌, false, List, [], ◌∷◌, ◌++◌, length, Some, None}
+use Rattle.std.specs.Prelude.{ℕ, ◌+◌, ◌<◌, ◌≤◌, ◌≡◌, false, List, [], ◌∷◌, ◌++◌, length, Some}
 use Rattle.std.specs.List.{AllByRecursion}
 use Rattle.cl_value.specs.Acts.{ask_of, reply_of, is_eval}
-use Rattle.cl_value.specs.Plain.{PlainWhat, InpMiss, RdpMiss, PlainAct, PlainRequest, PlainReply}
-use Rattle.cl_value.specs.Replay.{first_match, replayed, replay, TakesOldest, Oldest}
+use Rattle.cl_value.specs.Plain.{PlainWhat, PlainAct, PlainRequest, PlainReply}
+use Rattle.cl_value.specs.Replay.{replayed, replay, TakesOldest, Oldest, MissesRightly, MissesFrom}
 use Rattle.cl_value.specs.Tickets.{NumberedFrom}
 use Rattle.cl_value.specs.declared.value.Value.{Value}
 use Rattle.cl_model.specs.Alone.{IsOwn}
@@ -28,17 +28,6 @@ next_act m site what = record { ticket = length m.acts + 1; proc = 0; site = sit
 abbrev pub after_act : Moment → ℕ → PlainWhat → Moment
 after_act m site what =
     record { acts = m.acts ++ next_act m site what ∷ []; tuples = replayed m.tuples what; sites = m.sites; limit = m.limit }
-
--- an act that misses does so where no tuple matches
-abbrev pub MissesRightly : List (List Value) → PlainWhat → Type 0
-MissesRightly ts (InpMiss m) = first_match ts m ≡ None
-MissesRightly ts (RdpMiss m) = first_match ts m ≡ None
-MissesRightly ts _ = Unit {0}
-
--- each act does so, from a list before them
-abbrev pub MissesFrom : List (List Value) → List PlainAct → Type 0
-MissesFrom ts [] = Unit {0}
-MissesFrom ts (act ∷ acts) = MissesRightly ts act.what × MissesFrom (replayed ts act.what) acts
 
 -- the operation of a request was done, and its process is told this
 pub record Did (old : Moment) (request : PlainRequest) (reply : PlainReply) (new : Moment) : Type 0 where

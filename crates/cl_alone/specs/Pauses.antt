@@ -1,8 +1,9 @@
 -- Why a process goes no further. (This project.)
-use Rattle.std.specs.Prelude.{◌<◌, ◌≤◌, ◌≡◌, List, [], length, map, Option, Some, None, unwrap_or, IfSome}
+use Rattle.std.specs.Prelude.{◌<◌, ◌≤◌, ◌≡◌, true, List, [], length, map, Option, Some, None, unwrap_or, IfSome}
 use Rattle.cl_value.specs.Acts.{request_of, reply_of}
+use Rattle.cl_value.specs.Answers.{waits}
 use Rattle.cl_value.specs.Plain.{PlainAsk, Out, In, Rd, PlainRequest, PlainAct, Done}
-use Rattle.cl_value.specs.Replay.{first_match, found}
+use Rattle.cl_value.specs.Replay.{found}
 use Rattle.cl_value.specs.Views.{plain_request}
 use Rattle.cl_value.specs.declared.value.Value.{Value}
 use Rattle.cl_walk.specs.Walks.{Told, Said}
@@ -10,12 +11,6 @@ use Rattle.cl_alone.specs.Moment.{Moment, IsHistory}
 use Rattle.cl_alone.specs.declared.pause.Pause.{Pause}
 use Rattle.cl_alone.specs.declared.pause.Why.{Why}
 use Rattle.cl_alone.specs.declared.pause.Why.TheVariants as whys
-
--- the operation is an `in` or `rd` that no tuple of the list matches
-abbrev pub WaitsOn : List (List Value) → PlainAsk → Type 0
-WaitsOn ts (In m) = first_match ts m ≡ None
-WaitsOn ts (Rd m) = first_match ts m ≡ None
-WaitsOn ts _ = ⊥
 
 -- the operation is none that waits, or a tuple of the list matches
 abbrev pub GoesOn : List (List Value) → PlainAsk → Type 0
@@ -31,7 +26,7 @@ pub record IsFullAt (m : Moment) (request : PlainRequest) : Type 0 where
 
 -- the process goes no further at this request for such a reason
 abbrev pub PausesFor : Moment → PlainRequest → Why → Type 0
-PausesFor m request whys.Waits = WaitsOn m.tuples request.ask
+PausesFor m request whys.Waits = waits m.tuples request.ask ≡ true
 PausesFor m request whys.Full = IsFullAt m request
 PausesFor m request whys.NoMemory = Unit {0}
 PausesFor m request whys.Refused = Unit {0}

@@ -1,7 +1,7 @@
 -- What an operation that looks for a tuple does. (Gelernter 1985.)
 use Rattle.std.specs.Prelude.{ℕ, ◌≡◌, List, Some, None}
 use Rattle.cl_value.specs.Plain.{PlainAsk, In, Rd, Inp, Rdp, PlainRequest, PlainWhat, DidIn, DidRd, InpHit, RdpHit}
-use Rattle.cl_value.specs.Replay.{first_match, found}
+use Rattle.cl_value.specs.Replay.{found}
 use Rattle.cl_value.specs.declared.value.Value.{Value}
 use Rattle.cl_value.specs.declared.template.Slot.{Slot}
 use Rattle.cl_alone.specs.declared.seeking.Seeking.{Seeking}
@@ -29,7 +29,7 @@ hit seekings.Rdp template tuple = RdpHit template tuple
 
 -- why an operation that waits isn't done where the history is full
 abbrev pub FullOr : List (List Value) → List Slot → Why → Type 0
-FullOr ts template whys.Waits = first_match ts template ≡ None
+FullOr ts template whys.Waits = found ts template ≡ None
 FullOr ts template whys.Full = (t : List Value) × (found ts template ≡ Some t)
 FullOr ts template whys.NoMemory = Unit {0}
 FullOr ts template whys.Refused = ⊥

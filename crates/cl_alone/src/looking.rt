@@ -1,5 +1,5 @@
 ghost use Rattle.cl_ground.specs.declared.limits.TheConstants.{MOST_FIELDS};
-ghost use Rattle.std.specs.Prelude.{◌≡◌, true, false, is_some, Some};
+ghost use Rattle.std.specs.Prelude.{◌≡◌, true, false, is_some, Some, None};
 ghost use Rattle.cl_ground.specs.Room.{HasRoom, capacity_of};
 ghost use Rattle.cl_value.specs.Replay.{first_match, found, replayed};
 ghost use Rattle.cl_store.specs.Rooms.{Stored};
@@ -21,6 +21,7 @@ pub fn look<L: Ledger>(
 ) -> bool
     requires { HasRoom MOST_FIELDS into.old }
     ensures value { result ≡ is_some (first_match tuples.old.tuples template.now.items) }
+    ensures missed { result ≡ false → found tuples.old.tuples template.now.items ≡ None }
     ensures found { result ≡ true → found tuples.old.tuples template.now.items ≡ Some into.new.items }
     ensures left { result ≡ true → tuples.new.tuples ≡ replayed tuples.old.tuples (hit seeking template.now.items into.new.items) }
     ensures unchanged { result ≡ false → tuples.new ≡ tuples.old }

@@ -35,7 +35,8 @@ use Rattle.cl_ast.specs.declared.statement.Parameter.{Parameter}
 use Rattle.cl_ast.specs.declared.statement.Function.{Function}
 use Rattle.cl_ast.specs.declared.statement.Item.{Item}
 use Rattle.cl_ast.specs.declared.statement.Item.TheVariants as items
-use Rattle.cl_model.specs.Numbers.{number, is_within, byte_of}
+use Rattle.cl_model.specs.Numbers.{number, byte_of}
+use Rattle.cl_value.specs.Ranges.{is_within}
 use Rattle.cl_listing.specs.Names.{Name, same_name}
 use Rattle.cl_ast.proofs.Opens as opens
 use Rattle.cl_meaning.specs.Operators.{literal, converted}

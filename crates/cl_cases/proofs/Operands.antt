@@ -15,7 +15,8 @@ use Rattle.cl_ast.specs.declared.tree.Place.{out-Place}
 use Rattle.cl_ast.specs.declared.statement.Function.{Function}
 use Rattle.cl_ast.specs.declared.statement.Parameter.{Parameter}
 use Rattle.cl_model.specs.Doing.{Checked, ◌>>=◌, pure, checked}
-use Rattle.cl_model.specs.Numbers.{number, truth, is_zero, int_or_trap, long_or_trap, is_within, in_common, quotient, and_then}
+use Rattle.cl_model.specs.Numbers.{number, truth, is_zero, int_or_trap, long_or_trap, in_common, quotient, and_then}
+use Rattle.cl_value.specs.Ranges.{is_within}
 use Rattle.cl_meaning.specs.Operators.{field_type, operated}
 use Rattle.cl_meaning.specs.Operations.{Does, Aim, Holds, Fills, slot, value_at}
 use Rattle.cl_meaning.specs.Expressions.{Surroundings, truth_of, joined, value}

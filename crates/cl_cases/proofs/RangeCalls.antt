@@ -25,7 +25,8 @@ use Rattle.cl_meaning.specs.Calls.{Fixed, parameter, parameters, arguments, resu
 use Rattle.cl_meaning.specs.Process.{fixed, cells_of_globals, main, called_at, part_does, parts_do, live, process}
 use Rattle.cl_typing.specs.Laws.{around}
 use Rattle.cl_cases.specs.Literals.{block_fits, item_fits, literals_fit}
-use Rattle.cl_cases.specs.Ranges.{IsWithin, IsNumberWithin, VariableWithin, ScopeWithin, AllWithin, PartWithin, ReplyWithin, StartWithin, OutcomeWithin, LeadsWithin, StaysWithin, ExitWithin, ExpressionsStayWithin, CallsStayWithin, StatementsStayWithin}
+use Rattle.cl_cases.specs.Ranges.{VariableWithin, ScopeWithin, AllWithin, OutcomeWithin, LeadsWithin, StaysWithin, ExitWithin, ExpressionsStayWithin, CallsStayWithin, StatementsStayWithin}
+use Rattle.cl_value.specs.Ranges.{IsWithin, IsNumberWithin, PartWithin, ReplyWithin, StartWithin}
 use Rattle.cl_cases.proofs.LiteralRules.{both_fit}
 use Rattle.cl_cases.proofs.RangeNumbers.{within_of, converted_within, zero_within}
 use Rattle.cl_cases.proofs.RangeSteps.{stays_bind, stays_then, stays_more, stays_pure, stays_trap, stays_checked, stays_variables, stays_set, stays_tick, stays_claim, stays_release}

@@ -40,7 +40,8 @@ use Rattle.cl_meaning.specs.Parts.{field_aim, field_part, link_value, chain_valu
 use Rattle.cl_meaning.proofs.Equations as equations
 use Rattle.cl_ast.proofs.Inductions.{ExprGoods, every_expr as inductive_expr, every_place, every_call, every_operation}
 use Rattle.cl_cases.specs.Literals.{all_fit, expr_fits, place_fits, call_fits, operation_fits, field_fits, chain_fits, link_fits, expr_fits_if_any}
-use Rattle.cl_cases.specs.Ranges.{IsWithin, IsNumberWithin, VariableWithin, AllWithin, SlotWithin, PartWithin, AskWithin, ReplyWithin, StaysWithin, AimWithin, VariablesStayWithin}
+use Rattle.cl_cases.specs.Ranges.{VariableWithin, AllWithin, StaysWithin, AimWithin, VariablesStayWithin}
+use Rattle.cl_value.specs.Ranges.{IsWithin, IsNumberWithin, SlotWithin, PartWithin, AskWithin, ReplyWithin}
 use Rattle.cl_cases.proofs.LiteralRules as fitting
 use Rattle.cl_cases.proofs.LiteralRules.{both_fit}
 use Rattle.cl_cases.proofs.RangeNumbers.{within_of, converted_within, truth_within, operated_within, negated_within, literal_within}

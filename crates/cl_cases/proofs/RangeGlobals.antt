@@ -22,7 +22,8 @@ use Rattle.cl_ast.specs.declared.statement.Form.{Form}
 use Rattle.cl_ast.specs.declared.statement.Form.TheVariants as forms
 use Rattle.cl_ast.specs.declared.statement.Item.{Item}
 use Rattle.cl_ast.specs.declared.statement.Item.TheVariants as items
-use Rattle.cl_model.specs.Numbers.{number, is_within, byte_of}
+use Rattle.cl_model.specs.Numbers.{number, byte_of}
+use Rattle.cl_value.specs.Ranges.{is_within, IsNumberWithin}
 use Rattle.cl_listing.specs.Names.{Name}
 use Rattle.cl_ast.proofs.Opens as opens
 use Rattle.cl_meaning.specs.Operators.{literal, zero_of}
@@ -36,7 +37,7 @@ use Rattle.cl_types.specs.Items.{item_walked, known_first}
 use Rattle.cl_ast.proofs.Inductions.{ExprGoods, every_expr}
 use Rattle.cl_cases.specs.Initials.{FormIs, DeclaratorsAre, ItemsAre}
 use Rattle.cl_cases.specs.Literals.{constant_fits, expr_fits, form_fits, declarators_fit, item_fits, literals_fit}
-use Rattle.cl_cases.specs.Ranges.{IsNumberWithin, ScopeWithin, GlobalsBeginWithin}
+use Rattle.cl_cases.specs.Ranges.{ScopeWithin, GlobalsBeginWithin}
 use Rattle.cl_cases.proofs.Initials.{initial_literal, initial_place, initial_negate, globals_are_initial}
 use Rattle.cl_cases.proofs.LiteralRules as fitting
 use Rattle.cl_cases.proofs.LiteralRules.{both_fit}

@@ -14,7 +14,8 @@ use Rattle.cl_model.proofs.Matches.{same_tuple_is}
 use Rattle.cl_meaning.specs.Process.{process, begun, demands}
 use Rattle.cl_types.specs.Unit.{faults}
 use Rattle.cl_cases.specs.Literals.{literals_fit}
-use Rattle.cl_cases.specs.Ranges.{IsWithin, ReplyWithin, ReplyWithinIfAny, StartWithin, OutcomeWithin, WhatWithin, ActWithin, ProcessesStayWithin, HistoriesStayWithin}
+use Rattle.cl_cases.specs.Ranges.{OutcomeWithin, ProcessesStayWithin, HistoriesStayWithin}
+use Rattle.cl_value.specs.Ranges.{IsWithin, ReplyWithin, ReplyWithinIfAny, StartWithin, WhatWithin, ActWithin}
 use Rattle.cl_cases.proofs.RangeVariables.{all_append}
 use Rattle.cl_cases.proofs.RangeCalls.{process_stays, outcome_within}
 use Rattle.cl_cases.proofs.RangeGlobals.{globals_begin_within}

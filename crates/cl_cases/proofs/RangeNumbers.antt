@@ -11,10 +11,11 @@ use Rattle.cl_ast.specs.declared.tree.TypeName.TheVariants as types
 use Rattle.cl_ast.specs.declared.tree.Operator.{Operator}
 use Rattle.cl_ast.specs.declared.tree.Operator.TheVariants as operators
 use Rattle.cl_model.specs.Doing.{Checked}
-use Rattle.cl_model.specs.Numbers.{number, truth, is_zero, is_within, int_or_trap, long_or_trap, in_common, byte_of, and_then, quotient, negated}
+use Rattle.cl_model.specs.Numbers.{number, truth, is_zero, int_or_trap, long_or_trap, in_common, byte_of, and_then, quotient, negated}
+use Rattle.cl_value.specs.Ranges.{is_within, IsWithin, IsNumberWithin}
 use Rattle.cl_meaning.specs.Operators.{literal, zero_of, converted, operated}
 use Rattle.cl_cases.specs.Literals.{is_natural_within, constant_fits}
-use Rattle.cl_cases.specs.Ranges.{IsWithin, IsNumberWithin, OperatorsStayWithin}
+use Rattle.cl_cases.specs.Ranges.{OperatorsStayWithin}
 
 -- ---- what fits
 

@@ -9,7 +9,8 @@ use Rattle.cl_ast.specs.declared.tree.TypeName.TheVariants as types
 use Rattle.cl_ast.specs.declared.span.Span.{Span}
 use Rattle.cl_ast.specs.declared.statement.Item.{Item}
 use Rattle.cl_ast.specs.declared.statement.Item.TheVariants as items
-use Rattle.cl_model.specs.Numbers.{is_within, int_or_trap, long_or_trap, negated}
+use Rattle.cl_model.specs.Numbers.{int_or_trap, long_or_trap, negated}
+use Rattle.cl_value.specs.Ranges.{is_within}
 use Rattle.cl_meaning.specs.Operators.{converted, operated}
 use Rattle.cl_meaning.specs.Outer.{initial, outer}
 use Rattle.cl_cases.specs.Literals.{constant_fits, literals_fit}

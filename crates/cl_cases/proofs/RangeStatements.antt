@@ -44,7 +44,8 @@ use Rattle.cl_meaning.specs.Parts.{if_exit, while_exit, do_exit, for_exit}
 use Rattle.cl_meaning.proofs.Sentences as meant
 use Rattle.cl_ast.proofs.Inductions.{StmtGoods, every_stmt as inductive_stmt, every_block as inductive_block}
 use Rattle.cl_cases.specs.Literals.{all_fit, fits_if_any, expr_fits, place_fits, expr_fits_if_any, change_fits, form_fits, declarators_fit, arguments_fit, stmt_fits, block_fits}
-use Rattle.cl_cases.specs.Ranges.{IsNumberWithin, AllWithin, StaysWithin, ExitWithin}
+use Rattle.cl_cases.specs.Ranges.{AllWithin, StaysWithin, ExitWithin}
+use Rattle.cl_value.specs.Ranges.{IsNumberWithin}
 use Rattle.cl_cases.proofs.LiteralRules.{both_fit}
 use Rattle.cl_cases.proofs.LiteralSentences as fitting
 use Rattle.cl_cases.proofs.RangeNumbers.{converted_within, zero_within}

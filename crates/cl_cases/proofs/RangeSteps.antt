@@ -9,7 +9,8 @@ use Rattle.cl_value.specs.Acts.{fits}
 use Rattle.cl_model.specs.Doing.{Steps, Gives, Prints, Asks, Stops, State, Checked, then_do, ◌>>=◌, ◌>>◌, pure, trap, ask, print, variables, set_variables, counted, tick, ticks_left, claim, release, checked, each_onto, each, through}
 use Rattle.cl_meaning.specs.Variables.{Variables}
 use Rattle.cl_meaning.specs.Operations.{Does}
-use Rattle.cl_cases.specs.Ranges.{AllWithin, AskWithin, ReplyWithin, LeadsWithin, StaysWithin}
+use Rattle.cl_cases.specs.Ranges.{AllWithin, LeadsWithin, StaysWithin}
+use Rattle.cl_value.specs.Ranges.{AskWithin, ReplyWithin}
 use Rattle.cl_cases.proofs.RangeVariables.{all_append}
 
 -- ---- one thing behind another

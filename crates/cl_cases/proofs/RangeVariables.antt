@@ -5,7 +5,8 @@ use Rattle.std.specs.List.{AllByRecursion, list_any}
 use Rattle.cl_value.specs.declared.value.Value.{Value}
 use Rattle.cl_listing.specs.Names.{Name}
 use Rattle.cl_meaning.specs.Variables.{Variable, Scope, Variables, is_named, nowhere, in_scope, found_from, found, element, with_element, set_in, has, set_from, changed, declared_in, declared, without_innermost, entered, left, called_with, back_in}
-use Rattle.cl_cases.specs.Ranges.{IsNumberWithin, VariableWithin, ScopeWithin, AllWithin}
+use Rattle.cl_cases.specs.Ranges.{VariableWithin, ScopeWithin, AllWithin}
+use Rattle.cl_value.specs.Ranges.{IsNumberWithin}
 use Rattle.cl_cases.proofs.RangeNumbers.{zero_within}
 
 -- ---- lists

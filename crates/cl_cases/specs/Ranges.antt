@@ -1,13 +1,9 @@
--- Values within the ranges of their types: an `int` from -2 ^ 31 to 2 ^ 31 - 1, a `long` from -2 ^ 63 to 2 ^ 63 - 1, a `char` from 0 to 255. A text
--- has no range. (ISO/IEC 9899:1999, 5.2.4.2.1 and 6.2.5; how wide the types are: this project.)
-use Rattle.std.specs.Prelude.{◌≡◌, ℕ, true, nat_lt, List, [], Option, Some, None, Ok}
+-- That values stay within the ranges of their types. (ISO/IEC 9899:1999, 5.2.4.2.1 and 6.2.5; how wide the types are: this project.)
+use Rattle.std.specs.Prelude.{◌≡◌, ℕ, true, List, [], Some, None, Ok}
 use Rattle.std.specs.List.{AllByRecursion}
 use Rattle.cl_value.specs.declared.value.Value.{Value}
-use Rattle.cl_value.specs.declared.value.Value.TheVariants as values
-use Rattle.cl_value.specs.declared.template.Slot.{Slot}
-use Rattle.cl_value.specs.declared.template.Slot.TheVariants as slots
-use Rattle.cl_value.specs.Plain.{PlainPart, Ready, Call as Calls, PlainAsk, Out, In, Rd, Inp, Rdp, Eval, Land, PlainReply, Done, Got, Miss, PlainStart, Main, Lives, PlainWhat, PlainAct}
-use Rattle.cl_value.specs.Acts.{ask_of, reply_of, fits}
+use Rattle.cl_value.specs.Plain.{PlainReply, PlainStart, PlainAct}
+use Rattle.cl_value.specs.Acts.{fits}
 use Rattle.cl_ast.specs.declared.tree.TypeName.{TypeName}
 use Rattle.cl_ast.specs.declared.tree.Constant.{Constant}
 use Rattle.cl_ast.specs.declared.tree.Operator.{Operator}
@@ -24,7 +20,8 @@ use Rattle.cl_listing.specs.Names.{Name}
 use Rattle.cl_model.specs.Demand.{Outcome, Wants, Finishes, Traps, Misfit}
 use Rattle.cl_model.specs.Doing.{Steps, Gives, Prints, Asks, Stops, State}
 use Rattle.cl_model.specs.Machine.{Process, Legal, after}
-use Rattle.cl_model.specs.Numbers.{is_within, negated}
+use Rattle.cl_model.specs.Numbers.{negated}
+use Rattle.cl_value.specs.Ranges.{IsWithin, IsNumberWithin, PartWithin, AskWithin, ReplyWithin, StartWithin, ActWithin}
 use Rattle.cl_meaning.specs.Operators.{literal, converted, operated}
 use Rattle.cl_meaning.specs.Variables.{Variable, Scope, Variables}
 use Rattle.cl_meaning.specs.Operations.{Does, Aim, Holds, Fills, value_at, store}
@@ -37,21 +34,6 @@ use Rattle.cl_meaning.specs.Process.{fixed, begun, process, demands}
 use Rattle.cl_types.specs.Unit.{faults}
 use Rattle.cl_typing.specs.Laws.{around}
 use Rattle.cl_cases.specs.Literals.{constant_fits, expr_fits, place_fits, field_fits, call_fits, operation_fits, form_fits, stmt_fits, block_fits, literals_fit}
-
--- ---- values
-
-abbrev pub IsWithin : Value → Type 0
-IsWithin (values.Int n) = is_within 31 n ≡ true
-IsWithin (values.Long n) = is_within 63 n ≡ true
-IsWithin (values.Char n) = nat_lt n 256 ≡ true
-IsWithin (values.Text n) = Unit {0}
-
--- and it is no text
-abbrev pub IsNumberWithin : Value → Type 0
-IsNumberWithin (values.Int n) = is_within 31 n ≡ true
-IsNumberWithin (values.Long n) = is_within 63 n ≡ true
-IsNumberWithin (values.Char n) = nat_lt n 256 ≡ true
-IsNumberWithin (values.Text n) = ⊥
 
 -- ---- variables
 
@@ -66,38 +48,7 @@ pub record AllWithin (all : Variables) : Type 0 where
   pub globals : ScopeWithin all.globals
   pub locals : AllByRecursion ScopeWithin all.locals
 
--- ---- operations, replies and processes
-
-abbrev pub SlotWithin : Slot → Type 0
-SlotWithin (slots.Actual v) = IsWithin v
-SlotWithin (slots.Formal type) = Unit {0}
-
--- a field of a live tuple; the arguments of a call are numbers
-abbrev pub PartWithin : PlainPart → Type 0
-PartWithin (Ready v) = IsWithin v
-PartWithin (Calls number vs gives) = AllByRecursion IsNumberWithin vs
-
-abbrev pub AskWithin : PlainAsk → Type 0
-AskWithin (Out t) = AllByRecursion IsWithin t
-AskWithin (In m) = AllByRecursion SlotWithin m
-AskWithin (Rd m) = AllByRecursion SlotWithin m
-AskWithin (Inp m) = AllByRecursion SlotWithin m
-AskWithin (Rdp m) = AllByRecursion SlotWithin m
-AskWithin (Eval live) = AllByRecursion PartWithin live
-AskWithin (Land t) = AllByRecursion IsWithin t
-
-abbrev pub ReplyWithin : PlainReply → Type 0
-ReplyWithin Done = Unit {0}
-ReplyWithin (Got t) = AllByRecursion IsWithin t
-ReplyWithin Miss = Unit {0}
-
-abbrev pub ReplyWithinIfAny : Option PlainReply → Type 0
-ReplyWithinIfAny None = Unit {0}
-ReplyWithinIfAny (Some reply) = ReplyWithin reply
-
-abbrev pub StartWithin : PlainStart → Type 0
-StartWithin Main = Unit {0}
-StartWithin (Lives site live depth) = AllByRecursion PartWithin live
+-- ---- operations
 
 -- what a process asks for or finishes with
 abbrev pub OutcomeWithin : Outcome → Type 0
@@ -105,13 +56,6 @@ OutcomeWithin (Wants q) = AskWithin q.ask
 OutcomeWithin (Finishes vs) = AllByRecursion IsWithin vs
 OutcomeWithin (Traps t) = Unit {0}
 OutcomeWithin Misfit = Unit {0}
-
--- what was asked for, and the tuple that was taken or read
-abbrev pub WhatWithin : PlainWhat → Type 0
-WhatWithin what = AskWithin (ask_of what) × ReplyWithinIfAny (reply_of what)
-
-abbrev pub ActWithin : PlainAct → Type 0
-ActWithin act = WhatWithin act.what
 
 -- ---- what is done
 

@@ -1,14 +1,17 @@
--- An instruction takes no tick, and jumps only where it says.
+-- An instruction takes no tick, asks for no landing, and jumps only where it says.
 use Rattle.std.proofs.Common.{◌≡◌, ℕ, zero, suc, ◌+◌, ◌≤◌, Bool, true, false, List, [], ◌∷◌, Option, Some, None, refl}
 use Rattle.std.specs.Prelude.{ℤ, slice_get, if◌then◌else◌, nat_lt, nat_le, length, Ok, Err}
 use Rattle.cl_value.specs.declared.process.Trap.{Trap}
 use Rattle.cl_value.specs.declared.process.Trap.TheVariants.{OutputLimit, EvalDepth}
-use Rattle.cl_value.specs.Plain.{PlainRequest, PlainAsk, PlainReply}
+use Rattle.cl_value.specs.declared.value.Value.{Value}
+use Rattle.cl_value.specs.Plain.{PlainRequest, PlainAsk, Land, PlainReply}
 use Rattle.cl_model.specs.Doing.{Steps, Gives, Prints, Asks, Stops, State, Checked, then_do, ◌>>=◌, ◌>>◌, pure, trap, ask, print, variables, set_variables, checked}
 use Rattle.cl_sig.specs.Signatures.{PlainSignature}
+use Rattle.cl_sig.specs.declared.signature.Kind.{Kind}
+use Rattle.cl_sig.specs.declared.signature.Kind.TheVariants as kinds
 use Rattle.cl_code.specs.Plain.{PlainFunction, PlainProgram}
 use Rattle.cl_code.specs.Formats.{Piece, pieces_or_none, count_of, printed}
-use Rattle.cl_code.specs.Sites.{places_at, takes, fields_of, asked, told}
+use Rattle.cl_code.specs.Sites.{Field, places_at, takes, fields_of, asked, told}
 use Rattle.cl_code.specs.Arithmetic.{is_zero}
 use Rattle.cl_code.specs.Machine.{Cells, Does, Stack, Way, On, To, Past, Over, Into, Lost, Where, Local, Global, cells_at, loaded, index_of, may_ask, pushed, popped, on_one, on_two, dropped, jumps_if_zero, returns, loads, puts, stores, loads_at, stores_at, checks, clears, prints, requests, performs, calls, effect}
 use Rattle.cl_code.specs.declared.instr.Instr.{Instr}
@@ -27,11 +30,23 @@ IsFine code a (Jump to) = Aims code a to
 IsFine code a (JumpZero to) = Aims code a to
 IsFine code a _ = Unit {0}
 
--- whatever is told, what is given has this property, and so many ticks are left
+-- an operation is no landing
+abbrev pub NoLanding : PlainAsk → Type 0
+NoLanding ask = (tuple : List Value) → ask ≡ Land tuple → ⊥
+
+asked_lands_nothing : (kind : Kind) (fields : List Field) → NoLanding (asked kind fields)
+asked_lands_nothing kinds.Out fields tuple e = absurd cc
+asked_lands_nothing kinds.In fields tuple e = absurd cc
+asked_lands_nothing kinds.Rd fields tuple e = absurd cc
+asked_lands_nothing kinds.Inp fields tuple e = absurd cc
+asked_lands_nothing kinds.Rdp fields tuple e = absurd cc
+asked_lands_nothing kinds.Eval fields tuple e = absurd cc
+
+-- whatever is told, no landing is asked for, what is given has this property, and so many ticks are left
 abbrev pub Keeps : {A : Type 0} → ℕ → (A → Type 0) → Steps (A × State Cells) → Type 0
 Keeps n P (Gives r) = (r.1.ticks ≡ n) × P r.0
 Keeps n P (Prints bytes rest) = Keeps n P rest
-Keeps n P (Asks q rest) = (reply : PlainReply) → Keeps n P (rest reply)
+Keeps n P (Asks q rest) = NoLanding q.ask × ((reply : PlainReply) → Keeps n P (rest reply))
 Keeps n P (Stops t) = Unit {0}
 
 module _ (code : List Instr) (a : ℕ) where
@@ -59,9 +74,9 @@ module _ (code : List Instr) (a : ℕ) where
   unfolding set_variables ◌>>◌ then_do
   after_change cells d h s = h (record s { variables = cells })
 
-  after_reply : (q : PlainRequest) (f : PlainReply → Does Way) → ((reply : PlainReply) → Fine (f reply)) → Fine (ask q >>= f)
+  after_reply : (q : PlainRequest) (f : PlainReply → Does Way) → NoLanding q.ask → ((reply : PlainReply) → Fine (f reply)) → Fine (ask q >>= f)
   unfolding ask ◌>>=◌ then_do
-  after_reply q f h s reply = h reply s
+  after_reply q f none h s = (none, λ reply. h reply s)
 
   print_keeps : (bytes : List ℕ) (d : Does Way) → Fine d → (s : State Cells) (test : Bool) → Keeps s.ticks (AimsBy code a) (then_do {A = Unit {0}} (if test then Stops OutputLimit else Prints bytes (Gives (tt, record s { printed = s.printed + length bytes }))) (λ _. d))
   unfolding then_do
@@ -156,14 +171,14 @@ module _ (code : List Instr) (a : ℕ) where
   prints_pieces None stack = gives Lost tt
   prints_pieces (Some all) stack = after_pops (count_of all) [] stack _ (λ ns rest. after_print (printed all ns) _ (gives (On rest) tt))
 
-  requests_one : (depth number : ℕ) (site : PlainSignature) (operation : PlainAsk) (stack : Stack) → Fine (requests depth number site operation stack)
+  requests_one : (depth number : ℕ) (site : PlainSignature) (operation : PlainAsk) (stack : Stack) → NoLanding operation → Fine (requests depth number site operation stack)
   unfolding requests
-  requests_one depth number site operation stack = either (may_ask site.kind depth) _ _ (after_reply _ _ (λ reply. gives (On (pushed (told site reply) stack)) tt)) (traps EvalDepth)
+  requests_one depth number site operation stack none = either (may_ask site.kind depth) _ _ (after_reply _ _ none (λ reply. gives (On (pushed (told site reply) stack)) tt)) (traps EvalDepth)
 
   performs_one : (p : PlainProgram) (depth number : ℕ) (site : Option PlainSignature) (stack : Stack) → Fine (performs p depth number site stack)
   unfolding performs
   performs_one p depth number None stack = gives Lost tt
-  performs_one p depth number (Some site) stack = after_pops (takes p (places_at p number site)) [] stack _ (λ ns rest. after_check (fields_of p (places_at p number site) ns) _ (λ fields. requests_one depth number site (asked site.kind fields) rest))
+  performs_one p depth number (Some site) stack = after_pops (takes p (places_at p number site)) [] stack _ (λ ns rest. after_check (fields_of p (places_at p number site) ns) _ (λ fields. requests_one depth number site (asked site.kind fields) rest (asked_lands_nothing site.kind fields)))
 
   calls_one : (p : PlainProgram) (depth number : ℕ) (f : Option PlainFunction) (stack : Stack) → Fine (calls p depth number f stack)
   unfolding calls

@@ -3,6 +3,7 @@ mod Rows
 mod StartRows
 mod PositionRows
 pub mod Tests
+pub mod Divisions
 pub mod LawProofs
 pub mod Keeping
 pub mod Step
@@ -14,3 +15,8 @@ pub mod Flow
 pub mod Safe
 pub mod Processes
 pub mod Heights
+pub mod Landings
+pub mod Beginning
+pub mod Histories
+pub mod Storable
+mod MeaningRows

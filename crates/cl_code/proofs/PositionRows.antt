@@ -5,9 +5,9 @@ use Rattle.cl_value.specs.declared.value.Value.TheVariants as values
 use Rattle.cl_value.specs.declared.value.FieldType.TheVariants as types
 use Rattle.cl_value.specs.Plain.{PlainPart, Ready, Call, Done, Eval, Lives, Main}
 use Rattle.cl_model.specs.Doing.{State, ◌>>=◌, then_do, pure, ask, checked, variables}
+use Rattle.cl_model.specs.Machine.{depth_of}
 use Rattle.cl_sig.specs.Instances.{is_of_its_site}
 use Rattle.cl_code.specs.Starts.{start_fits}
-use Rattle.cl_code.specs.Requests.{depth_of}
 use Rattle.cl_code.specs.Machine.{Cells, On, Over, Into, effect, performs, popped, requests, loads}
 use Rattle.cl_code.specs.Positions.{Position, MayLead, entry_of, led_to, Reached, Begins, GoesOn}
 use Rattle.cl_code.proofs.RuleRows.{right}

@@ -11,6 +11,7 @@ use Rattle.cl_value.specs.Acts.{fits}
 use Rattle.cl_model.specs.Demand.{Wants, Finishes, Traps, Misfit}
 use Rattle.cl_model.specs.Doing.{Steps, Gives, Prints, Asks, Stops, State, outcome_after, then_do, ◌>>=◌, ◌>>◌, pure, tick, counted, release, variables, set_variables, checked}
 use Rattle.cl_model.specs.Numbers.{number}
+use Rattle.cl_model.specs.Machine.{depth_of}
 use Rattle.cl_sig.specs.Beside.{all_beside}
 use Rattle.cl_sig.specs.Fields.{all_below}
 use Rattle.cl_sig.specs.Instances as instances
@@ -29,7 +30,7 @@ use Rattle.cl_code.specs.Process.{function_does, result_as, ending_as, type_give
 use Rattle.cl_code.specs.Rules.{frame_size, has, has_no_parameters, is_eval, is_some_up_to, rule_1, keeps_rules}
 use Rattle.cl_code.specs.Valid.{site_is_typed, Valid}
 use Rattle.cl_code.specs.Starts.{has_type, takes_and_gives, calls_there, part_fits, live_fits, start_fits}
-use Rattle.cl_code.specs.Requests.{depth_of, IsRightRequest}
+use Rattle.cl_code.specs.Requests.{IsRightRequest}
 use Rattle.cl_code.specs.Laws.{IsNeverWrong, AsksRight, LandsRight}
 use Rattle.cl_code.proofs.Holds.{Holds, then_holds, holds_more, after_checked, at_checked}
 use Rattle.cl_code.proofs.Requests.{then_ok, same_Ok, value_typed, beside_marks}

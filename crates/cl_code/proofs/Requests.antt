@@ -15,7 +15,8 @@ use Rattle.cl_value.specs.Matching.{matches, same_type, type_of}
 use Rattle.cl_value.specs.Plain.{PlainPart, Call, Eval, PlainReply, Done, Got, Miss}
 use Rattle.cl_value.specs.Acts.{fits}
 use Rattle.cl_model.specs.Doing.{Checked}
-use Rattle.cl_model.specs.Numbers.{is_within, and_then}
+use Rattle.cl_model.specs.Numbers.{and_then}
+use Rattle.cl_value.specs.Ranges.{is_within}
 use Rattle.cl_sig.specs.Beside.{all_beside}
 use Rattle.cl_sig.specs.Instances.{value_fits, slot_fits, is_tuple_of, is_template_of, is_live_of, ask_fits}
 use Rattle.cl_sig.specs.Instances as instances

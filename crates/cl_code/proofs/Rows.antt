@@ -25,7 +25,7 @@ use Rattle.cl_code.specs.declared.instr.Instr.{Instr}
 use Rattle.cl_code.specs.declared.instr.Instr.TheVariants.{PushInt, PushLong, LoadLocal, LoadGlobal, StoreLocal, StoreGlobal, LoadLocalAt, LoadGlobalAt, StoreLocalAt, StoreGlobalAt, CheckIndex, Clear, AddInt, SubInt, MulInt, DivInt, RemInt, NegInt, AddLong, SubLong, MulLong, DivLong, RemLong, NegLong, Less, LessEqual, Greater, GreaterEqual, Equal, NotEqual, Not, Narrow, ToChar, Jump, JumpZero, Tick, Call, Return, Pop, Print, Perform}
 
 -- what the meaning of code computes with
-computes : Unit {0}
+unfoldable pub computes : Unit {0}
 unfolding digits then_do ◌>>=◌ ◌>>◌ pure trap ask variables set_variables print tick claim release checked popped on_one on_two dropped jumps_if_zero returns loads puts stores loads_at stores_at checks clears prints requests performs calls effect follow set_frame act back jump entered_by entered run leaving ticked machine function_does main part_does parts_do live process
 computes = tt
 

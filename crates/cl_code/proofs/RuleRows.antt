@@ -158,7 +158,7 @@ returns_two = refl
 
 -- ---- a valid program without operations: return 0;
 
-abbrev nothing : PlainProgram
+abbrev pub nothing : PlainProgram
 nothing = record right { code = PushInt (pos 0) ∷ Return ∷ []; heights = 0 ∷ 1 ∷ []; functions = main ∷ []; sites = []; calls = []; sets = [] }
 
 pub is_valid : Valid nothing

@@ -144,7 +144,7 @@ module _ (p : PlainProgram) (depth : ℕ) where
   led_from frames a n (Gives r) h = led frames a n r.0 r.1 h.0 h.1
   led_from frames a n (Stops t) h = refl
   led_from frames a n (Prints bytes rest) h = ap (λ steps. Prints bytes steps) (led_from frames a n rest h)
-  led_from frames a n (Asks q rest) h = ap (λ go. Asks q go) (fun_ext (λ reply. led_from frames a n (rest reply) (h reply)))
+  led_from frames a n (Asks q rest) h = ap (λ go. Asks q go) (fun_ext (λ reply. led_from frames a n (rest reply) (h.1 reply)))
 
   pub step : (frames : List Frame) (a next : ℕ) → suc a ≡ next → (i : Instr) → slice_get p.code a ≡ Some i → IsFine p.code a i → (stack : Stack) → machine p depth frames a stack ≡ effect p depth i stack >>= follows p depth frames next
   unfolding ◌>>=◌

@@ -1,20 +1,22 @@
 -- What holds of the code of every program, and of every valid program. (This project.)
 use Rattle.std.specs.Prelude.{◌≡◌, ◌⊎◌, ℕ, suc, ◌<◌, ◌≤◌, List, length, slice_get, Some, IsTrue}
 use Rattle.cl_value.specs.declared.value.Value.{Value}
-use Rattle.cl_value.specs.Plain.{PlainPart, PlainRequest, PlainReply, PlainStart, Lives, Land}
+use Rattle.cl_value.specs.Plain.{PlainPart, PlainRequest, PlainReply, PlainStart, Lives, Eval, Land}
 use Rattle.cl_model.specs.Demand.{Wants, Finishes}
 use Rattle.cl_model.specs.Doing.{◌>>=◌}
 use Rattle.cl_model.specs.Laws.{AreDemands}
+use Rattle.cl_model.specs.Machine.{depth_of}
 use Rattle.cl_sig.specs.Instances.{is_of_its_site}
 use Rattle.cl_code.specs.Plain.{PlainFunction, PlainProgram}
 use Rattle.cl_code.specs.Reach.{same_function, function_at}
 use Rattle.cl_code.specs.Valid.{Valid}
-use Rattle.cl_code.specs.Starts.{start_fits}
-use Rattle.cl_code.specs.Requests.{depth_of, IsRightRequest}
+use Rattle.cl_code.specs.Starts.{start_fits, calls_fit}
+use Rattle.cl_code.specs.Requests.{IsRightRequest}
 use Rattle.cl_code.specs.Process.{Goes, Wrong, code_demand, demands}
 use Rattle.cl_code.specs.Machine.{Frame, Stack, effect, machine}
 use Rattle.cl_code.specs.Following.{follows}
 use Rattle.cl_code.specs.Positions.{Position, Reached}
+use Rattle.cl_ground.specs.declared.limits.TheConstants.{MOST_DEPTH}
 use Rattle.cl_code.specs.declared.instr.Instr.{Instr}
 use Rattle.cl_code.specs.declared.instr.Instr.TheVariants.{Jump, JumpZero, Tick}
 
@@ -23,6 +25,15 @@ use Rattle.cl_code.specs.declared.instr.Instr.TheVariants.{Jump, JumpZero, Tick}
 -- the laws of one process
 abbrev pub CodeDemands : Type 0
 CodeDemands = (p : PlainProgram) (ticks : ℕ) (start : PlainStart) → AreDemands (demands p ticks start)
+
+-- whatever it is told, no process asks for a landing: it lands by finishing
+abbrev pub NoLandings : Type 0
+NoLandings = (p : PlainProgram) (ticks : ℕ) (start : PlainStart) (replies : List PlainReply) (q : PlainRequest) (tuple : List Value) → (code_demand p ticks start replies).outcome ≡ Goes (Wants q) → q.ask ≡ Land tuple → ⊥
+
+-- a live tuple that is an instance of the `eval` of its site, and whose calls are of the functions at their fields, may begin at a depth from 1 to 64
+abbrev pub InstancesBegin : Type 0
+InstancesBegin =
+    (p : PlainProgram) (site : ℕ) (live : List PlainPart) (depth : ℕ) → IsTrue (is_of_its_site p.sites (record { site = site; ask = Eval live })) → IsTrue (calls_fit p site live) → 1 ≤ depth → depth ≤ MOST_DEPTH → IsTrue (start_fits p (Lives site live depth))
 
 -- ---- of a valid one
 

@@ -12,3 +12,4 @@ pub mod Positions
 pub mod Laws
 pub mod Starts
 pub mod Requests
+pub mod Meaning

@@ -1,14 +1,9 @@
 -- What a process of a valid program may ask for. (This project.)
 use Rattle.std.specs.Prelude.{◌≡◌, ℕ, suc, IsTrue, List}
-use Rattle.cl_value.specs.Plain.{PlainPart, Eval, PlainRequest, PlainStart, Main, Lives}
+use Rattle.cl_value.specs.Plain.{PlainPart, Eval, PlainRequest, Lives}
 use Rattle.cl_sig.specs.Instances.{is_of_its_site}
 use Rattle.cl_code.specs.Plain.{PlainProgram}
 use Rattle.cl_code.specs.Starts.{start_fits}
-
--- how deep a process is: the first has depth 0
-abbrev pub depth_of : PlainStart → ℕ
-depth_of Main = 0
-depth_of (Lives site live depth) = depth
 
 -- a request of a process of this depth is an instance of its site's signature, and a process that it makes, one deeper, may begin so
 pub record IsRightRequest (p : PlainProgram) (depth : ℕ) (q : PlainRequest) : Type 0 where

@@ -8,7 +8,7 @@ use Rattle.cl_value.specs.declared.value.Value.{Value}
 use Rattle.cl_value.specs.declared.value.Value.TheVariants as values
 use Rattle.cl_value.specs.declared.value.FieldType.{FieldType}
 use Rattle.cl_value.specs.declared.value.FieldType.TheVariants as types
-use Rattle.cl_model.specs.Numbers.{is_within}
+use Rattle.cl_value.specs.Ranges.{is_within}
 use Rattle.cl_sig.specs.Fields.{all_below}
 use Rattle.cl_sig.specs.Signatures.{PlainSignature}
 use Rattle.cl_sig.specs.declared.signature.Kind.{Kind}

@@ -10,7 +10,8 @@ use Rattle.cl_value.specs.declared.template.Slot.{Slot}
 use Rattle.cl_value.specs.declared.template.Slot.TheVariants as slots
 use Rattle.cl_value.specs.Plain.{PlainPart, Ready, Call, PlainAsk, Out, In, Rd, Inp, Rdp, Eval, PlainReply, Done, Got, Miss}
 use Rattle.cl_model.specs.Doing.{Checked}
-use Rattle.cl_model.specs.Numbers.{number, is_within, and_then}
+use Rattle.cl_model.specs.Numbers.{number, and_then}
+use Rattle.cl_value.specs.Ranges.{is_within}
 use Rattle.cl_sig.specs.Signatures.{PlainSignature}
 use Rattle.cl_sig.specs.declared.signature.Kind.{Kind}
 use Rattle.cl_sig.specs.declared.signature.Kind.TheVariants as kinds

@@ -49,6 +49,10 @@ abbrev pub start_fits : PlainProgram → PlainStart → Bool
 start_fits p Main = true
 start_fits p (Lives site live depth) = has (live_fits p site live) (slice_get p.sites site) && (nat_le 1 depth && nat_le depth MOST_DEPTH)
 
+-- whether each call of a live tuple is one of the function at its field, where there is such a site
+abbrev pub calls_fit : PlainProgram → ℕ → List PlainPart → Bool
+calls_fit p number live = has (λ (site : PlainSignature). all_beside (part_fits p) (places_at p number site) live) (slice_get p.sites number)
+
 -- ---- shapes
 
 -- the shape of a program without sets: its history stays empty

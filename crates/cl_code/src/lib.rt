@@ -15,7 +15,8 @@ mod program;
 pub use function::Function;
 pub use instr::Instr;
 pub use laws::{
-    each_height_is_met, each_instruction_leads_on, each_process_demands, each_process_is_right,
+    each_act_is_an_instance, each_division_agrees, each_height_is_met, each_instance_begins,
+    each_instruction_leads_on, each_process_demands, each_process_is_right, each_set_is_storable,
 };
 pub use parts::ProgramParts;
 pub use program::Program;

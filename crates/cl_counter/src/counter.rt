@@ -95,6 +95,11 @@ impl TupleStore for Counter {
         true
     }
 
+    #[tactic(auto, using(crate::proofs::Copies::counted))]
+    fn has<L: Ledger>(&self, _template: &Template, _steps: &mut Steps<L>) -> bool {
+        self.count != 0
+    }
+
     fn len(&self) -> u64 {
         self.count
     }

@@ -2,6 +2,7 @@ pub mod Histories
 pub mod Marks
 pub mod Numbers
 pub mod Order
+pub mod Programs
 pub mod Requests
 pub mod Rising
 pub mod Sets

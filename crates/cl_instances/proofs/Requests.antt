@@ -36,7 +36,7 @@ use Rattle.cl_instances.proofs.Numbers.{site_found, got_behind}
 
 -- ---- operations stand where they are listed
 
-abbrev place_of : Operation × List Finding → ℕ
+abbrev pub place_of : Operation × List Finding → ℕ
 place_of x = (out-Operation x.0).span.start
 
 -- a signature of the program, as plain as it is
@@ -51,7 +51,7 @@ made_stand : (texts : List (List ℕ)) (fs : Forms) → map stands_at (map made 
 made_stand texts [] = refl
 made_stand texts (x ∷ fs) = ap (λ ps. place_of x ∷ ps) (made_stand texts fs)
 
-places_are : (xs : List Item) → sites_in (in_items xs) ≡ map place_of (findings xs)
+pub places_are : (xs : List Item) → sites_in (in_items xs) ≡ map place_of (findings xs)
 places_are xs =
     let texts = texts_of xs in
     let ss = map made (map (signature_of texts) (sites_of xs)) in
@@ -78,13 +78,13 @@ module _ (texts : List (List ℕ)) (functions : List Function) (es : Entries) (a
   abbrev site : ℕ → ℕ
   site place = site_at place es
 
-  signature_got : (before : Forms) (x : Operation × List Finding) (after : Forms) → slice_get (map (signature_of texts) (told (before ++ x ∷ after))) (length before) ≡ Some (signature_of texts (x.0, tell_own x.1))
+  pub signature_got : (before : Forms) (x : Operation × List Finding) (after : Forms) → slice_get (map (signature_of texts) (told (before ++ x ∷ after))) (length before) ≡ Some (signature_of texts (x.0, tell_own x.1))
   signature_got before x after =
       let s : Operation × List Finding → PlainSignature = λ y. signature_of texts (y.0, tell_own y.1) in
       ap (λ l. slice_get l (length before)) (ap (map (signature_of texts)) (told_append before (x ∷ after)) ∙ map-append (signature_of texts) (told before) (told (x ∷ after)))
       ∙ (ap (slice_get (map (signature_of texts) (told before) ++ s x ∷ map (signature_of texts) (told after))) (sym (length_signatures texts before)) ∙ got_behind (map (signature_of texts) (told before)) (s x) (map (signature_of texts) (told after)))
 
-  site_is : (before : Forms) (x : Operation × List Finding) (after : Forms) → sites_in es ≡ map place_of (before ++ x ∷ after) → site (place_of x) ≡ length before
+  pub site_is : (before : Forms) (x : Operation × List Finding) (after : Forms) → sites_in es ≡ map place_of (before ++ x ∷ after) → site (place_of x) ≡ length before
   site_is before x after is = site_found es (place_of x) (map place_of before) (map place_of after) (is ∙ map-append place_of before (x ∷ after)) apart ∙ length_places before
 
   asked_instance : (before after : Forms) (q : PlainRequest) → sites_in es ≡ map place_of (before ++ after) → EachTyped after → AsksAt text site functions after q →

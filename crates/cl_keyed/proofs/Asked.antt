@@ -1,5 +1,5 @@
 -- What a template's key finds in the tuples of all keys.
-use Rattle.std.proofs.Common.{◌≡◌, ℕ, zero, suc, Bool, true, not, List, [], ◌∷◌, ◌++◌, length, map, filter, Option, Some, None, is_some, IfSome, IfNone, refl, sym, ◌∙◌, ap, subst}
+use Rattle.std.proofs.Common.{◌≡◌, ℕ, zero, suc, Bool, true, false, not, List, [], ◌∷◌, ◌++◌, length, map, filter, Option, Some, None, is_some, IfSome, IfNone, refl, sym, ◌∙◌, ap, subst}
 use Rattle.std.proofs.lemmas.List.{length-map}
 use Rattle.std.proofs.lemmas.List.Elements.{filter-append}
 use Rattle.std.specs.Prelude.{slice_get, option_and_then}
@@ -94,3 +94,12 @@ pub told : {A : Type 0} (o : Option A) (field n : ℕ) (lines : List (Key × Roo
     → is_some o ≡ is_some (first_match (content_of n lines) m)
 told None field n lines m t holds some none = sym (is_some-found (content_of n lines) m ∙ ap is_some (none n holds))
 told (Some p) field n lines m t holds some none = sym (is_some-found (content_of n lines) m ∙ ap is_some (some n holds))
+
+-- there is no first match where nothing is found
+pub absent : (ts : List (List Value)) (m : List Slot) → found ts m ≡ None → false ≡ is_some (first_match ts m)
+absent ts m none = sym (is_some-found ts m ∙ ap is_some none)
+
+-- there is a first match where the list of the template's key has one
+pub told-key : (field n : ℕ) (m : List Slot) (k : Key) (place : ℕ) (lines : List (Key × Room Row)) → asked_at field m ≡ Some k → StandsAt k place lines → Holds field n lines → is_some (first_match (map tuple_of (items_at lines place)) m) ≡ is_some (first_match (content_of n lines) m)
+told-key field n m k place lines asked stands holds =
+    is_some-found (map tuple_of (items_at lines place)) m ∙ (ap is_some (sym (found-key field n m k place lines asked stands holds)) ∙ sym (is_some-found (content_of n lines) m))

@@ -144,6 +144,10 @@ impl TupleStore for Keyed {
         self.table.find(self.field, template, into, steps).is_some()
     }
 
+    fn has<L: Ledger>(&self, template: &Template, steps: &mut Steps<L>) -> bool {
+        self.table.has(self.field, template, steps)
+    }
+
     fn len(&self) -> u64 {
         self.count
     }

@@ -33,7 +33,7 @@ impl Model for Line {
 }
 
 impl Line {
-    ghost use Rattle.std.specs.Prelude.{◌≡◌, ◌+◌, ◌-◌, ◌<◌, ◌≤◌, [], ◌∷◌, ◌++◌, ◌==◌, length, map, remove, IsOk, IsNone, OnOk, OnSome, Some};
+    ghost use Rattle.std.specs.Prelude.{◌≡◌, ◌+◌, ◌-◌, ◌<◌, ◌≤◌, [], ◌∷◌, ◌++◌, ◌==◌, length, map, remove, is_some, IsOk, IsNone, OnOk, OnSome, Some};
     ghost use Rattle.cl_ground.specs.Room.{Room, HasRoom, capacity_of};
     ghost use Rattle.cl_value.specs.Replay.{first_match, found};
     ghost use Rattle.cl_keyed.specs.Rows.{Row, tuple_of};
@@ -91,6 +91,15 @@ impl Line {
         let row = &self.rows[place];
         into.refill(&row.tuple);
         Some(place)
+    }
+
+    /// Whether some tuple matches. It copies nothing.
+    pub fn has<L: Ledger>(&self, template: &Template, steps: &mut Steps<L>) -> bool
+        ensures value { result ≡ is_some (first_match (map tuple_of self.now.items) template.now.items) }
+        ensures cost { steps.new ≤ steps.old + length self.now.items }
+        ensures later { steps.old ≤ steps.new }
+    {
+        search(&self.rows, template, steps).is_some()
     }
 
     /// Takes out the tuple at a place.

@@ -32,7 +32,7 @@ impl Model for Table {
 }
 
 impl Table {
-    ghost use Rattle.std.specs.Prelude.{◌≡◌, ◌+◌, ◌<◌, ◌≤◌, ℕ, List, [], ◌∷◌, ◌++◌, length, map, remove, IsNone, OnOk, OnSome, IfSome, IfNone, IsTrue, None, Some};
+    ghost use Rattle.std.specs.Prelude.{◌≡◌, ◌+◌, ◌<◌, ◌≤◌, ℕ, List, [], ◌∷◌, ◌++◌, length, map, remove, is_some, IsNone, OnOk, OnSome, IfSome, IfNone, IsTrue, None, Some};
     ghost use Rattle.cl_ground.specs.Room.{Room, HasRoom, capacity_of};
     ghost use Rattle.cl_value.specs.Replay.{first_match, found, without_first};
     ghost use Rattle.cl_value.specs.declared.template.Slot.{Slot};
@@ -108,6 +108,33 @@ impl Table {
             return None;
         };
         Some(Place { line, row })
+    }
+
+    /// Whether some tuple of a list matches.
+    fn has_in<L: Ledger>(&self, place: usize, template: &Template, steps: &mut Steps<L>) -> bool
+        requires { place < length self.now.lines }
+        ensures value { result ≡ is_some (first_match (map tuple_of (items_at self.now.lines place)) template.now.items) }
+        ensures cost { steps.new ≤ steps.old + length (items_at self.now.lines place) }
+        ensures later { steps.old ≤ steps.new }
+    {
+        self.lines[place].has(template, steps)
+    }
+
+    /// Whether some tuple matches. It hashes the template's key once, compares no tuple of another key, and
+    /// copies nothing.
+    pub fn has<L: Ledger>(&self, field: usize, template: &Template, steps: &mut Steps<L>) -> bool
+        requires { IsTrue (has_actual field template.now.items) }
+        ensures value { (n : ℕ) → Holds field n self.now.lines → result ≡ is_some (first_match (content_of n self.now.lines) template.now.items) }
+        ensures cost { (n : ℕ) → Holds field n self.now.lines → steps.new ≤ steps.old + tuples_with field (asked_at field template.now.items) (content_of n self.now.lines) }
+        ensures later { steps.old ≤ steps.new }
+    {
+        let Some(key) = Key::asked(template.slots(), field) else {
+            return false;
+        };
+        let Some(line) = self.place_of(key) else {
+            return false;
+        };
+        self.has_in(line, template, steps)
     }
 
     /// Takes out a tuple, and its key with the last tuple of that key.

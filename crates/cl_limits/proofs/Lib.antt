@@ -3,6 +3,7 @@ pub mod Operations
 pub mod Expressions
 pub mod Statements
 pub mod Calls
+pub mod Loops
 pub mod Demanded
 pub mod Laws
 pub mod Replies

@@ -1,2 +1,4 @@
 pub mod Ticks
 pub mod Runs
+pub mod Laws
+pub mod Loops

@@ -5,6 +5,7 @@ use Rattle.cl_value.specs.declared.process.Trap.TheVariants.{StepLimit}
 use Rattle.cl_value.specs.Plain.{PlainAct, PlainEnd, Trapped, NoThread, NoMemory, PlainRun}
 use Rattle.cl_value.specs.Tickets.{by_ticket}
 use Rattle.cl_ast.specs.declared.statement.Item.{Item}
+use Rattle.cl_model.specs.Agree.{where_demanded}
 use Rattle.cl_model.specs.Demand.{Demands, Traps}
 use Rattle.cl_model.specs.Machine.{Process, Legal, after, demand_of}
 use Rattle.cl_model.specs.Good.{RunKind, end_in}
@@ -22,10 +23,6 @@ EndsOtherwise (Trapped t) = t ≢ StepLimit
 EndsOtherwise NoThread = ⊥
 EndsOtherwise NoMemory = ⊥
 EndsOtherwise _ = Unit {0}
-
--- a meaning whose processes demand this
-abbrev pub where_demanded : Demands → Meaning → Meaning
-where_demanded demands meaning = record meaning { demands = demands }
 
 -- processes that have few ticks, and the same with more
 pub record RunFurther (few more : Demands) : Type 0 where

@@ -117,6 +117,10 @@ impl TupleStore for Listed {
         self.copy_first(template, into, steps).is_some()
     }
 
+    fn has<L: Ledger>(&self, template: &Template, steps: &mut Steps<L>) -> bool {
+        search(self.tuples.as_slice(), template, steps).is_some()
+    }
+
     fn len(&self) -> u64 {
         self.tuples.len() as u64
     }

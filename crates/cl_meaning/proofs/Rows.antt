@@ -6,7 +6,8 @@ use Rattle.cl_value.specs.declared.value.Value.{Value}
 use Rattle.cl_value.specs.declared.value.Value.TheVariants as values
 use Rattle.cl_value.specs.declared.value.FieldType.TheVariants as fields
 use Rattle.cl_value.specs.declared.process.Trap.TheVariants as traps
-use Rattle.cl_value.specs.Plain.{Out, Eval, PlainReply, Done, Got, Miss, Ready, Call as Calls, Main, Lives}
+use Rattle.cl_value.specs.declared.template.Slot.TheVariants.{Actual}
+use Rattle.cl_value.specs.Plain.{Out, Inp, Eval, PlainReply, Done, Got, Miss, Ready, Call as Calls, Main, Lives}
 use Rattle.cl_ast.specs.declared.span.Span.{Span}
 use Rattle.cl_ast.specs.declared.tree.Name.{Name}
 use Rattle.cl_ast.specs.declared.tree.TypeName.{TypeName}
@@ -424,3 +425,71 @@ return_leaves_all = refl
 no_turn_no_tick : demands (main_alone (while_so (int 0) (block []) ∷ [])) 0 Main [] ≡ ends_with (number 0)
 unfolding computes
 no_turn_no_tick = refl
+
+-- ---- replies beyond their types
+
+-- int n; in(?n); printf("%d", n); told a number that is no `int`
+beyond_an_int : shown (declares types.Int n forms.Bare ∷ does_it 5 verbs.In (asks n None ∷ []) ∷ prints (codes "%d") (var n ∷ []) ∷ []) (Got (number 2147483648 ∷ []) ∷ []) ≡ says [] (Traps traps.Overflow)
+unfolding computes
+beyond_an_int = refl
+
+-- char n; in(?n); return n; told a number that is no `char`
+beyond_a_char : shown (declares types.Char n forms.Bare ∷ does_it 5 verbs.In (asks n None ∷ []) ∷ gives (var n) ∷ []) (Got (values.Char 300 ∷ []) ∷ []) ≡ ends_with (number 44)
+unfolding computes
+beyond_a_char = refl
+
+-- ---- orders
+
+abbrev parameter_of : TypeName → List ℕ → Parameter
+parameter_of of name = record { type_name = of; name = named name; span = nowhere }
+
+-- int g(int a, int n) {} real_main() { g(2147483648, inp("x")); }: all arguments are evaluated, and then they are converted
+abbrev converts_late : List PlainReply → Demand
+converts_late replies = demands (function (Some types.Int) (codes "g") (parameter_of types.Int a ∷ parameter_of types.Int n ∷ []) [] ∷ main_alone (stmts.Call (roll-Call (record { name = named (codes "g"); arguments = long 2147483648 ∷ doing 5 verbs.Inp (text (codes "x") ∷ []) ∷ []; span = nowhere })) ∷ [])) 0 Main replies
+
+asks_first : converts_late [] ≡ says [] (Wants (record { site = 0; ask = Inp (Actual (values.Text 0) ∷ []) }))
+unfolding computes
+asks_first = refl
+
+-- and before the tick
+then_converts : converts_late (Miss ∷ []) ≡ says [] (Traps traps.Overflow)
+unfolding computes
+then_converts = refl
+
+-- int g(int a) {} eval("x", g(2147483648), 1 / 0): the arguments of a call in their field's turn
+converts_in_turn : demands (function (Some types.Int) (codes "g") (parameter_of types.Int a ∷ []) [] ∷ main_alone (does_it 5 verbs.Eval (text (codes "x") ∷ field (calling (codes "g") (long 2147483648 ∷ [])) ∷ field (by operators.Divide (int 1) (int 0)) ∷ []) ∷ [])) 10 Main [] ≡ says [] (Traps traps.Overflow)
+unfolding computes
+converts_in_turn = refl
+
+-- in a process of depth 64, void g() { eval("x", 1 / 0); }: the fields, and then the depth
+abbrev divides_at : ℕ → Demand
+divides_at depth = demands (function None (codes "g") [] (does_it 5 verbs.Eval (text (codes "x") ∷ field (by operators.Divide (int 1) (int 0)) ∷ []) ∷ []) ∷ main_alone []) 1 (Lives 0 (Calls 0 [] fields.Int ∷ []) depth) []
+
+fields_before_depth : divides_at 64 ≡ says [] (Traps traps.DivideByZero)
+unfolding computes
+fields_before_depth = refl
+
+-- int n = 4; inp("x", ?n); return n; on a miss
+miss_leaves : shown (declares types.Int n (valued (int 4)) ∷ does_it 5 verbs.Inp (text (codes "x") ∷ asks n None ∷ []) ∷ gives (var n) ∷ []) (Miss ∷ []) ≡ ends_with (number 4)
+unfolding computes
+miss_leaves = refl
+
+-- int a[65536]; int n; a live tuple without calls: the globals are tested first
+globals_first : demands (global types.Int a (sized 65536) ∷ global types.Int n forms.Bare ∷ main_alone []) 0 (Lives 0 (Ready (number 1) ∷ []) 1) [] ≡ says [] (Traps traps.CellLimit)
+unfolding computes
+globals_first = refl
+
+-- char a[1]; a[0] = 2147483649; return a[0]: an element is converted to its type, without a trap where that is `char`
+converts_to_char : shown (declares types.Char a (sized 1) ∷ set a (Some (int 0)) (changes.Set (long 2147483649)) ∷ gives (at a (int 0)) ∷ []) [] ≡ ends_with (number 1)
+unfolding computes
+converts_to_char = refl
+
+-- int n; do { n++; if (n - 2) continue; } while (n < 2); return n; after two ticks
+do_continues : demands (main_alone (declares types.Int n forms.Bare ∷ stmts.Do (roll-Do (record { body = block (set n None changes.Increment ∷ stmts.If (roll-If (record { test = by operators.Subtract (var n) (int 2); yes = stmts.Continue nowhere; no = None; span = nowhere })) ∷ []); test = by operators.Less (var n) (int 2); span = nowhere })) ∷ gives (var n) ∷ [])) 2 Main [] ≡ ends_with (number 2)
+unfolding computes
+do_continues = refl
+
+-- int n = 1; int g() { n += 1; return n; } return n * 100 + g() * 10 + n; the left operand before the right one
+left_before_right : demands (global types.Int n (valued (int 1)) ∷ function (Some types.Int) (codes "g") [] (set n None (changes.Add (int 1)) ∷ gives (var n) ∷ []) ∷ main_alone (gives (exprs.Chain (roll-Chain (record { first = by operators.Multiply (var n) (int 100); others = roll-Link (record { operator = operators.Add; operand = by operators.Multiply (calling (codes "g") []) (int 10) }) ∷ roll-Link (record { operator = operators.Add; operand = var n }) ∷ []; span = nowhere }))) ∷ [])) 1 Main [] ≡ ends_with (number 122)
+unfolding computes
+left_before_right = refl

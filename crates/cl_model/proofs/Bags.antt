@@ -5,14 +5,10 @@ use Rattle.cl_value.specs.Replay.{first_match, without_first, found, replayed, r
 use Rattle.cl_value.specs.Plain.{PlainWhat, DidOut, DidIn, DidRd, InpHit, InpMiss, RdpHit, RdpMiss, DidEval, DidLand, PlainAct}
 use Rattle.cl_value.specs.declared.value.Value.{Value}
 use Rattle.cl_value.specs.declared.template.Slot.{Slot}
+use Rattle.cl_model.specs.Counting.{count, Counts}
 use Rattle.cl_model.specs.Bag.{Bag, empty, plus, minus, Holds, NoneMatches}
 use Rattle.cl_model.specs.Machine.{State, bag_after, changed, after_from}
 use Rattle.cl_model.proofs.Matches.{same_tuple_refl, same_tuple_is, found_here, found_later, without_here, without_later, first_none_later}
-
--- how many tuples of a list equal one
-abbrev pub count : List Value → List (List Value) → ℕ
-count u [] = 0
-count u (t ∷ ts) = cond (same_tuple t u) (count u ts + 1) (count u ts)
 
 pub count_push : (u t : List Value) (ts : List (List Value)) → count u (ts ++ t ∷ []) ≡ cond (same_tuple t u) (count u ts + 1) (count u ts)
 count_push u t [] = refl
@@ -61,10 +57,6 @@ count_none u (x ∷ xs) m h k =
     by_test : (b : Bool) → same_tuple x u ≡ b → matches m x ≡ false → count u xs ≡ 0 → count u (x ∷ xs) ≡ 0
     by_test true e f r = let same = same_tuple_is x u e in cc
     by_test false e f r = rw e r
-
--- the bag has each tuple as often as the list
-pub record Counts (bag : Bag) (ts : List (List Value)) : Type 0 where
-  pub each : (u : List Value) → bag u ≡ count u ts
 
 pub counts_at_first : Counts empty []
 counts_at_first = record { each = λ u. refl }

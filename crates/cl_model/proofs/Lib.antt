@@ -1,6 +1,15 @@
 pub mod Matches
 pub mod Bags
 pub mod Histories
+pub mod Begun
 pub mod Alone
 pub mod Laws
+pub mod Following
+pub mod Told
+pub mod Agree
+pub mod Alike
 pub mod Rows
+pub mod Answering
+pub mod RunRows
+pub mod TurnRows
+pub mod TurnLaws

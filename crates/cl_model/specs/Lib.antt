@@ -8,4 +8,9 @@ pub mod Ends
 pub mod Good
 pub mod Meaning
 pub mod Runs
+pub mod Turns
 pub mod Alone
+pub mod Counting
+pub mod Processes
+pub mod Agree
+pub mod Alike

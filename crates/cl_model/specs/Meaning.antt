@@ -1,6 +1,7 @@
 -- What a program means to its run: what its processes demand, in which sets its operations stand, and how many acts a set may have. (This project.)
-use Rattle.std.specs.Prelude.{ℕ, ◌≡◌, ◌==◌, ◌||◌, if◌then◌else◌, Bool, true, false, List, [], ◌∷◌, length, get_or}
+use Rattle.std.specs.Prelude.{ℕ, ◌≡◌, if◌then◌else◌, true, false, List, [], ◌∷◌, length, get_or}
 use Rattle.cl_value.specs.Plain.{PlainAct, PlainEnd, NoThread, HistoryFull, NoMemory, Stopped}
+use Rattle.cl_value.specs.Acts.{is_site_of}
 use Rattle.cl_model.specs.Demand.{Demands, Outcome, Wants, Finishes}
 use Rattle.cl_model.specs.Machine.{Process, BeganAt}
 use Rattle.cl_model.specs.Bag.{Bag}
@@ -15,11 +16,6 @@ pub record Meaning : Type 0 where
 -- the sites of a set; there is none where there is no such set
 abbrev pub sites_of : Meaning → ℕ → List ℕ
 sites_of meaning set = get_or meaning.sets set []
-
--- whether a site is one of these
-abbrev pub is_site_of : List ℕ → ℕ → Bool
-is_site_of [] site = false
-is_site_of (other ∷ sites) site = other == site || is_site_of sites site
 
 -- the acts at these sites
 abbrev pub acts_at : List ℕ → List PlainAct → List PlainAct

@@ -1,7 +1,8 @@
 -- Values as numbers, arithmetic and conversion. (ISO/IEC 9899:1999, 6.3.1 and 6.5.3 to 6.5.9; where a result doesn't fit C leaves it open: the
 -- traps are this project's.)
-use Rattle.std.specs.Prelude.{ℕ, ◌-◌, ◌%◌, ◌^◌, nat_lt, Bool, if◌then◌else◌, ℤ, pos, negsuc, neg_ℤ, int_div, int_rem, int_lt, Ok, Err}
+use Rattle.std.specs.Prelude.{ℕ, ◌-◌, ◌%◌, Bool, if◌then◌else◌, ℤ, pos, negsuc, neg_ℤ, int_div, int_rem, int_lt, Ok, Err}
 use Rattle.std.specs.Ordering.{int_eq}
+use Rattle.cl_value.specs.Ranges.{is_within}
 use Rattle.cl_value.specs.declared.process.Trap.TheVariants.{Overflow, DivideByZero}
 use Rattle.cl_value.specs.declared.value.Value.{Value}
 use Rattle.cl_value.specs.declared.value.Value.TheVariants.{Int, Long, Char, Text}
@@ -25,11 +26,6 @@ abbrev pub is_zero : Value → Bool
 is_zero v = int_eq (number v) (pos 0)
 
 -- ---- what fits
-
--- whether it lies from -2 ^ bits to 2 ^ bits - 1
-abbrev pub is_within : ℕ → ℤ → Bool
-is_within bits (pos n) = nat_lt n (2 ^ bits)
-is_within bits (negsuc n) = nat_lt n (2 ^ bits)
 
 -- an `int` of this number, if it fits one
 abbrev pub int_or_trap : ℤ → Checked Value

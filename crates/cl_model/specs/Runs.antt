@@ -44,13 +44,13 @@ pub record GoodReport (meaning : Meaning) (kind : RunKind) (acts : List PlainAct
   pub output_is : OutputAgrees r (demand_of meaning.demands process).output r.end
 
 -- the history has no more acts than a set may have
-abbrev pub IsWithin : ℕ → PlainHistory → Type 0
-IsWithin limit history = length history.acts ≤ limit
+abbrev pub IsWithinLimit : ℕ → PlainHistory → Type 0
+IsWithinLimit limit history = length history.acts ≤ limit
 
 -- the report of a run of a program that means this
 pub record GoodRun (meaning : Meaning) (kind : RunKind) (run : PlainRun) : Type 0 where
   pub histories : HistoriesAre 0 meaning.sets run.histories
-  pub within : AllByRecursion (IsWithin meaning.limit) run.histories
+  pub within : AllByRecursion (IsWithinLimit meaning.limit) run.histories
   pub legal : Legal meaning.demands (by_ticket run.histories)
   pub oldest : Oldest (by_ticket run.histories)
   pub names : map (λ r. r.name) run.reports ≡ 0 ∷ names_made (by_ticket run.histories)

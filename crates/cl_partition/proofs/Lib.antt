@@ -1,3 +1,4 @@
 pub mod LabelLaws
 pub mod NumberLaws
 pub mod ApartLaws
+pub mod UniqueLaws

@@ -3,7 +3,9 @@ use Rattle.std.specs.Prelude.{◌≡◌, ◌≢◌, ℕ, false, List, Some, slic
 use Rattle.cl_value.specs.Matching.{matches}
 use Rattle.cl_value.specs.declared.value.Value.{Value}
 use Rattle.cl_value.specs.declared.template.Slot.{Slot}
-use Rattle.cl_sig.specs.Instances.{is_tuple_of, is_template_of}
+use Rattle.cl_value.specs.Plain.{PlainRequest}
+use Rattle.cl_value.specs.Acts.{Adds, AsksWith}
+use Rattle.cl_sig.specs.Instances.{is_tuple_of, is_template_of, is_of_its_site}
 use Rattle.cl_sig.specs.Partitions.{IsPartition}
 use Rattle.cl_sig.specs.Signatures.{PlainSignature, is_producer}
 
@@ -21,3 +23,10 @@ NeverMeet =
     → IsTrue (is_tuple_of producer.fields t)
     → IsTrue (is_template_of consumer.fields m)
     → matches m t ≡ false
+
+-- so it is with requests: the tuple of one at a site of one set matches no template of one at a site of
+-- another, where both are instances of their sites' signatures
+abbrev pub InstancesNeverMatch : Type 0
+InstancesNeverMatch =
+    (sites : List PlainSignature) (numbers : List ℕ) → IsPartition sites numbers → (adding asking : PlainRequest) → IsTrue (is_of_its_site sites adding) → IsTrue (is_of_its_site sites asking) →
+    slice_get numbers adding.site ≢ slice_get numbers asking.site → (t : List Value) (m : List Slot) → Adds adding.ask t → AsksWith asking.ask m → matches m t ≡ false

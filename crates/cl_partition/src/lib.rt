@@ -6,6 +6,8 @@
 #![tactic(auto)]
 
 mod labels;
+mod laws;
 mod numbering;
 
-pub use numbering::{partition, sets_never_meet};
+pub use laws::{partition_is_unique, sets_never_meet};
+pub use numbering::partition;

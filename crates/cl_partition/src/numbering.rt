@@ -3,7 +3,6 @@ ghost use Rattle.std.specs.Prelude.{◌≡◌, ◌<◌, ◌≤◌, length, slice
 ghost use Rattle.cl_ground.specs.Room.{Room};
 ghost use Rattle.cl_sig.specs.Numbers.{in_order};
 ghost use Rattle.cl_sig.specs.Partitions.{IsPartition};
-ghost use Rattle.cl_partition.specs.Apart.{NeverMeet};
 ghost use Rattle.cl_partition.specs.Labels.{plain_sites, AreLow, AreLabels, JoinedBefore, SameNumbers};
 
 use crate::labels::label_all;
@@ -59,8 +58,3 @@ pub fn partition(alloc: Global, sites: &Items<Signature>) -> Result<Sets, NoMemo
     let labels = labels_of(alloc, sites)?;
     numbered(alloc, labels.as_slice())
 }
-
-/// A law: sets never meet. It does nothing.
-pub fn sets_never_meet()
-    ensures apart { NeverMeet }
-{}

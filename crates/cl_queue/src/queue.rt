@@ -107,6 +107,11 @@ impl TupleStore for Queue {
         }
     }
 
+    #[tactic(auto, using(cl_store::proofs::Matches::fronts))]
+    fn has<L: Ledger>(&self, _template: &Template, _steps: &mut Steps<L>) -> bool {
+        self.tuples.front().is_some()
+    }
+
     fn len(&self) -> u64 {
         self.tuples.len() as u64
     }

@@ -1,8 +1,8 @@
 -- What is found for a template.
-use Rattle.std.proofs.Common.{◌≡◌, suc, true, false, List, [], ◌∷◌, length, Some, None, is_some, refl, sym, ◌∙◌, ap}
+use Rattle.std.proofs.Common.{◌≡◌, suc, true, false, not, List, [], ◌∷◌, length, Some, None, is_some, is_none, refl, sym, ◌∙◌, ap}
 use Rattle.cl_store.proofs.Same.{both}
 use Rattle.cl_store.proofs.Matches.{first_match-matches, found-at, without_first-none}
-use Rattle.cl_store.specs.Answers.{take_answer, take_now_answer}
+use Rattle.cl_value.specs.Answers.{take_answer, take_now_answer}
 use Rattle.cl_value.specs.Matching.{matches, accepts}
 use Rattle.cl_value.specs.Replay.{first_match, found, without_first, replayed}
 use Rattle.cl_value.specs.declared.value.Value.{Value}
@@ -67,3 +67,16 @@ taken_now-replayed ts m =
       | None ↦ λ none. without_first-none ts m none
       | Some t ↦ λ _. refl
     ] refl
+
+-- an operation waits where there is no first match
+pub not-has : (ts : List (List Value)) (m : List Slot) → not (is_some (first_match ts m)) ≡ is_none (found ts m)
+not-has ts m =
+    elim (first_match ts m) as (λ o. first_match ts m ≡ o → not (is_some (first_match ts m)) ≡ is_none (found ts m)) [
+      | None ↦ λ none. rw none refl
+      | Some i ↦ λ is.
+          let (u, (got, met)) = first_match-matches ts m i is in
+          let at : found ts m ≡ Some u = found-at ts m i is ∙ got in
+          ap (λ o. not (is_some o)) is ∙ sym (ap is_none at)
+    ] refl
+
+pub ruleset asks = (not-has)

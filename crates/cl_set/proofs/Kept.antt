@@ -2,11 +2,11 @@
 use Rattle.std.proofs.Common.{◌≡◌, List, [], ◌∷◌, ◌++◌, Some, None, All, refl}
 use Rattle.std.proofs.lemmas.List.Elements.{All-append}
 use Rattle.cl_store.proofs.Matches.{All-without_first}
-use Rattle.cl_store.specs.Answers.{answer, take_answer, read_answer, take_now_answer, read_now_answer}
+use Rattle.cl_value.specs.Answers.{answer, take_answer, read_answer, take_now_answer, read_now_answer}
 use Rattle.cl_value.specs.Plain.{PlainAsk, Out, In, Rd, Inp, Rdp, Eval, Land, PlainAct}
-use Rattle.cl_value.specs.Replay.{found, replayed, replay_from, TakesOldest, OldestFrom}
+use Rattle.cl_value.specs.Replay.{found, replayed, replay_from, TakesOldest, OldestFrom, MissesRightly, MissesFrom}
 use Rattle.cl_value.specs.declared.value.Value.{Value}
-use Rattle.cl_set.specs.Deeds.{MissesRightly, MissesFrom, tuple_added}
+use Rattle.cl_set.specs.Deeds.{tuple_added}
 
 -- the replay of one act more
 pub replay-push : (ts : List (List Value)) (acts : List PlainAct) (act : PlainAct) → replay_from ts (acts ++ act ∷ []) ≡ replayed (replay_from ts acts) act.what

@@ -1,12 +1,12 @@
 -- What is answered where an operation doesn't wait: its request, and a reply that fits it.
 use Rattle.std.proofs.Common.{◌≡◌, Bool, true, false, List, Option, Some, None, IsTrue, is_none, option_map, refl, sym, ◌∙◌, ap, subst}
 use Rattle.std.specs.Prelude.{IfSome}
-use Rattle.cl_store.specs.Answers.{answer, take_answer, read_answer, take_now_answer, read_now_answer}
+use Rattle.cl_value.specs.Answers.{answer, take_answer, read_answer, take_now_answer, read_now_answer, waits}
 use Rattle.cl_value.specs.Acts.{ask_of}
 use Rattle.cl_value.specs.Plain.{PlainAsk, Out, In, Rd, Inp, Rdp, Eval, Land, PlainRequest}
 use Rattle.cl_value.specs.Replay.{found}
 use Rattle.cl_value.specs.declared.value.Value.{Value}
-use Rattle.cl_set.specs.Deeds.{waits, reply_fits}
+use Rattle.cl_set.specs.Deeds.{reply_fits}
 use Rattle.cl_set.specs.Sets.{Deed, asked_in}
 use Rattle.cl_set.specs.declared.set_core.Planned.{Planned}
 use Rattle.cl_set.specs.declared.set_core.Planned.TheVariants as plans

@@ -2,7 +2,7 @@
 use Rattle.std.proofs.Common.{ℕ, ◌+◌, ◌<◌, List, [], ◌∷◌, ◌++◌, arith}
 use Rattle.std.proofs.lemmas.List.Elements.{All-nil, All-push, All-head, All-tail, All-weaker}
 use Rattle.cl_value.specs.Plain.{PlainAct}
-use Rattle.cl_set.specs.Keeping.{IsAbove, TicketsRise}
+use Rattle.cl_value.specs.Tickets.{IsAbove, TicketsRise}
 
 -- tickets rise with an act more, whose ticket is above theirs
 pub rise-push : (acts : List PlainAct) (act : PlainAct) → TicketsRise acts → IsAbove act.ticket acts → TicketsRise (acts ++ act ∷ [])

@@ -8,10 +8,11 @@ use Rattle.cl_value.specs.declared.value.Value.{Value}
 use Rattle.cl_value.specs.declared.template.Slot.{Slot}
 use Rattle.cl_sig.specs.Beside.{all_beside}
 use Rattle.cl_sig.specs.Shapes.{PlainShape}
+use Rattle.cl_sig.specs.Storable.{class_allows, is_number_mark}
 use Rattle.cl_sig.specs.Suits.{value_suits, slot_suits, class_suits, is_literal}
 use Rattle.cl_sig.specs.declared.signature.Mark.{Mark}
 use Rattle.cl_sig.specs.declared.shape.Class.TheVariants as classes
-use Rattle.cl_set.specs.Conditions.{class_allows, literals, is_number_mark}
+use Rattle.cl_set.specs.Conditions.{literals}
 use Rattle.cl_set.specs.Standing.{Serves}
 use Rattle.cl_set.specs.declared.store.Store.TheVariants as stores
 use Rattle.cl_counter.specs.Counting.{Counting}

@@ -3,7 +3,8 @@ use Rattle.std.proofs.Common.{◌≡◌, ℕ, ◌+◌, ◌≤◌, Bool, List, []
 use Rattle.std.specs.Prelude.{IfSome}
 use Rattle.std.proofs.lemmas.List.{map-append}
 use Rattle.std.proofs.lemmas.List.Elements.{All-push, All-nil, All-head}
-use Rattle.cl_store.specs.Answers.{answer, template_of}
+use Rattle.cl_store.specs.Answers.{template_of}
+use Rattle.cl_value.specs.Answers.{answer}
 use Rattle.cl_value.specs.Plain.{PlainAct, PlainAsk, Out, In, Rd, Inp, Rdp, Eval, Land, PlainWhat}
 use Rattle.cl_value.specs.Replay.{replay, replayed}
 use Rattle.cl_value.specs.declared.value.Value.{Value}
@@ -11,7 +12,8 @@ use Rattle.cl_sig.specs.Shapes.{PlainShape}
 use Rattle.cl_sig.specs.Suits.{tuple_suits, ask_suits}
 use Rattle.cl_set.specs.Conditions.{has_site}
 use Rattle.cl_set.specs.Deeds.{tuple_added}
-use Rattle.cl_set.specs.Keeping.{IsAbove, Keeps}
+use Rattle.cl_set.specs.Keeping.{Keeps}
+use Rattle.cl_value.specs.Tickets.{IsAbove}
 use Rattle.cl_set.specs.Sets.{Deed, PlainSet, cost_by, cost_of}
 use Rattle.cl_set.specs.Stores.{class_of, content_in, admitted_by, fitted_by, cost_in}
 use Rattle.cl_sig.specs.declared.shape.Class.{Class}

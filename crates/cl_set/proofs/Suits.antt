@@ -10,11 +10,12 @@ use Rattle.cl_value.specs.declared.value.FieldType.TheVariants as types
 use Rattle.cl_value.specs.declared.template.Slot.{Slot}
 use Rattle.cl_value.specs.declared.template.Slot.TheVariants as slots
 use Rattle.cl_sig.specs.Beside.{all_beside}
+use Rattle.cl_sig.specs.Storable.{is_number_mark}
 use Rattle.cl_sig.specs.Suits.{value_suits, slot_suits, is_literal, is_formal_slot, is_actual_at}
 use Rattle.cl_sig.specs.declared.signature.Mark.{Mark}
 use Rattle.cl_sig.specs.declared.signature.Mark.TheVariants as marks
 use Rattle.cl_keyed.specs.Keys.{key_at, key_of, has_actual, is_some_actual}
-use Rattle.cl_set.specs.Conditions.{literals, is_number_mark}
+use Rattle.cl_set.specs.Conditions.{literals}
 
 -- sameness of values can be turned
 same_value-turn : (v w : Value) → same_value v w ≡ true → same_value w v ≡ true

@@ -2,14 +2,15 @@
 use Rattle.std.proofs.Common.{◌≡◌, ◌+◌, ◌<◌, ◌≤◌, List, [], ◌∷◌, ◌++◌, Option, None, IsTrue, length, map, refl, sym, ◌∙◌, ap, arith, subst, append_assoc, append-nil, length-append}
 use Rattle.std.proofs.lemmas.List.Elements.{All-head, All-tail, All-weaker}
 use Rattle.cl_store.proofs.Same.{both}
-use Rattle.cl_store.specs.Answers.{answer}
+use Rattle.cl_value.specs.Answers.{answer}
 use Rattle.cl_value.specs.Acts.{request_of}
 use Rattle.cl_value.specs.Plain.{PlainAct, Out, In, Rd, Inp, Rdp, Eval, Land}
 use Rattle.cl_value.specs.Replay.{replay, replayed}
 use Rattle.cl_value.specs.declared.value.Value.{Value}
 use Rattle.cl_sig.specs.Suits.{suits, ask_suits}
 use Rattle.cl_set.specs.Conditions.{has_site}
-use Rattle.cl_set.specs.Keeping.{IsAbove, Keeps}
+use Rattle.cl_set.specs.Keeping.{Keeps}
+use Rattle.cl_value.specs.Tickets.{IsAbove}
 use Rattle.cl_set.specs.Laws.{Turn, act_of, after_turn, done_to, tuples_after, acts_of, NoneWaits, EachTurnIsKept, ACounterNeverCompares}
 use Rattle.cl_set.specs.Sets.{Deed, PlainSet, after_deed, content}
 use Rattle.cl_set.proofs.Kept.{replay-push}

@@ -1,22 +1,12 @@
 -- What each set keeps. (This project.)
-use Rattle.std.specs.Prelude.{ℕ, ◌+◌, ◌≤◌, ◌<◌, List, [], ◌∷◌, length, Option, Some, None, All, IsTrue}
-use Rattle.cl_value.specs.Plain.{PlainAct}
-use Rattle.cl_value.specs.Replay.{TakesOldest, Oldest, replay}
+use Rattle.std.specs.Prelude.{ℕ, ◌+◌, ◌≤◌, List, [], length, Option, Some, None, All, IsTrue}
+use Rattle.cl_value.specs.Replay.{TakesOldest, Oldest, replay, MissesRightly, MissesFrom}
+use Rattle.cl_value.specs.Tickets.{TicketsRise}
 use Rattle.cl_value.specs.declared.value.Value.{Value}
 use Rattle.cl_sig.specs.Shapes.{PlainShape}
 use Rattle.cl_sig.specs.Suits.{tuple_suits}
 use Rattle.cl_set.specs.Conditions.{has_site}
-use Rattle.cl_set.specs.Deeds.{MissesRightly, MissesFrom}
 use Rattle.cl_set.specs.Sets.{Deed, PlainSet, content}
-
--- a ticket is above those of these acts
-abbrev pub IsAbove : ℕ → List PlainAct → Type 0
-IsAbove ticket acts = All (λ act. act.ticket < ticket) acts
-
--- the tickets of acts rise
-abbrev pub TicketsRise : List PlainAct → Type 0
-TicketsRise [] = Unit {0}
-TicketsRise (act ∷ acts) = All (λ later. act.ticket < later.ticket) acts × TicketsRise acts
 
 -- how many acts what is begun will be
 abbrev pub count_begun : Option Deed → ℕ

@@ -6,9 +6,9 @@ use Rattle.cl_value.specs.Replay.{replayed}
 use Rattle.cl_value.specs.declared.value.Value.{Value}
 use Rattle.cl_sig.specs.Suits.{suits}
 use Rattle.cl_sig.specs.declared.shape.Class.TheVariants as classes
-use Rattle.cl_store.specs.Answers.{answer}
-use Rattle.cl_set.specs.Deeds.{waits}
-use Rattle.cl_set.specs.Keeping.{IsAbove, Keeps}
+use Rattle.cl_value.specs.Answers.{answer, waits}
+use Rattle.cl_set.specs.Keeping.{Keeps}
+use Rattle.cl_value.specs.Tickets.{IsAbove}
 use Rattle.cl_set.specs.Sets.{PlainSet, content, cost_of}
 
 -- a plan and the seal of what it began

@@ -4,8 +4,9 @@ ghost use Rattle.cl_value.specs.Plain.{Out, In, Rd, Inp, Rdp, Eval, Land};
 ghost use Rattle.cl_value.specs.Replay.{found, without_first, replayed};
 ghost use Rattle.cl_ground.specs.Room.{HasRoom, capacity_of};
 ghost use Rattle.cl_value.specs.Views.{plain_ask, plain_what};
-ghost use Rattle.cl_store.specs.Answers.{answer, template_of};
-ghost use Rattle.cl_set.specs.Deeds.{waits, tuple_added};
+ghost use Rattle.cl_store.specs.Answers.{template_of};
+ghost use Rattle.cl_value.specs.Answers.{answer, take_answer, read_answer, take_now_answer, read_now_answer, waits};
+ghost use Rattle.cl_set.specs.Deeds.{tuple_added};
 ghost use Rattle.cl_set.specs.Stores.{class_of, content_in, admitted_by, fitted_by, cost_in};
 
 use crate::place::{Answered, Place};
@@ -179,7 +180,6 @@ fn find<L: Ledger>(
 
 ghost use Rattle.cl_value.specs.declared.template.Slot.{Slot};
 ghost use Rattle.std.specs.Prelude.{List, Some, false};
-ghost use Rattle.cl_store.specs.Answers.{take_answer, read_answer, take_now_answer, read_now_answer};
 
 // A take that waits: what was done, or None where nothing was found.
 fn waiting_take(kept: Answered, told: Answered) -> Option<Twice>

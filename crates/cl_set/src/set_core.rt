@@ -65,12 +65,14 @@ impl SetCore {
     ghost use Rattle.std.specs.Prelude.{◌≡◌, ◌+◌, ◌≤◌, false, [], ◌∷◌, ◌++◌, length, option_map, IsTrue, IsSome, IfSome, IfOk, OnErr, Ok, None, Some};
     ghost use Rattle.cl_value.specs.Replay.{replay, replayed};
     ghost use Rattle.cl_value.specs.Views.{plain_request, plain_what, plain_act, plain_history};
+    ghost use Rattle.cl_sig.specs.Storable.{IsStorable};
     ghost use Rattle.cl_sig.specs.Suits.{suits};
     ghost use Rattle.cl_sig.specs.Views.{plain_shape};
-    ghost use Rattle.cl_store.specs.Answers.{answer};
-    ghost use Rattle.cl_set.specs.Conditions.{IsStorable};
-    ghost use Rattle.cl_set.specs.Deeds.{waits, reply_fits};
-    ghost use Rattle.cl_set.specs.Keeping.{IsAbove, Keeps};
+    ghost use Rattle.cl_value.specs.Answers.{answer};
+    ghost use Rattle.cl_set.specs.Deeds.{reply_fits};
+    ghost use Rattle.cl_value.specs.Answers.{waits};
+    ghost use Rattle.cl_set.specs.Keeping.{Keeps};
+    ghost use Rattle.cl_value.specs.Tickets.{IsAbove};
     ghost use Rattle.cl_set.specs.Sets.{content, asked_in, what_begun, sealed, cost_of};
 
     /// A set of this shape without tuples and acts. `NoMemory` comes where the allocator refused room.
@@ -118,15 +120,27 @@ impl SetCore {
     {
         if self.acts.len() == self.limit as usize {
             let planned = Planned::Full;
-            return refuse(&self.store, &request.ask, &mut self.buffer, planned, steps);
+            return refuse(&self.store, &request.ask, planned, steps);
         }
         match self.perform(request, steps) {
             Ok(planned) => planned,
             Err(NoMemory) => {
                 let planned = Planned::NoMemory;
-                refuse(&self.store, &request.ask, &mut self.buffer, planned, steps)
+                refuse(&self.store, &request.ask, planned, steps)
             }
         }
+    }
+
+    /// Whether the operation would wait: it is an `in` or `rd` that no tuple matches. It does nothing, copies
+    /// nothing and takes no memory.
+    pub fn waits<L: Ledger>(&self, request: &Request, steps: &mut Steps<L>) -> bool
+        requires idle { self.now.begun ≡ None }
+        requires suits { IsTrue (suits self.now.shape (plain_request request.now)) }
+        ensures value { result ≡ waits (replay self.now.acts) (plain_request request.now).ask }
+        ensures cost { steps.new ≤ steps.old + cost_of self.now.shape.class (replay self.now.acts) (plain_request request.now).ask }
+        ensures later { steps.old ≤ steps.new }
+    {
+        waits_in(&self.store, &request.ask, steps)
     }
 
     // Does an operation after its growths, where the history may have one more act.
@@ -235,42 +249,42 @@ impl SetCore {
     }
 }
 
-ghost use Rattle.cl_ground.specs.declared.limits.TheConstants.{MOST_FIELDS};
 ghost use Rattle.std.specs.Prelude.{◌≡◌, ◌+◌, ◌≤◌, [], All, IsTrue, IfOk, if◌then◌else◌};
-ghost use Rattle.cl_ground.specs.Room.{HasRoom, capacity_of};
 ghost use Rattle.cl_value.specs.Views.{plain_ask};
+ghost use Rattle.cl_sig.specs.Storable.{IsStorable};
 ghost use Rattle.cl_sig.specs.Views.{plain_shape};
 ghost use Rattle.cl_store.specs.Answers.{template_of};
-ghost use Rattle.cl_set.specs.Conditions.{IsStorable};
-ghost use Rattle.cl_set.specs.Deeds.{waits};
+ghost use Rattle.cl_value.specs.Answers.{waits};
 ghost use Rattle.cl_set.specs.Standing.{Serves};
 ghost use Rattle.cl_set.specs.Stores.{content_in, fitted_by, cost_in};
 
+// Whether an operation waits.
+#[tactic(auto, using(crate::proofs::Found::asks))]
+fn waits_in<L: Ledger>(store: &Store, ask: &Ask, steps: &mut Steps<L>) -> bool
+    requires { All (λ m. IsTrue (fitted_by store.now (content_in store.now) m)) (template_of (plain_ask ask.now)) }
+    ensures value { result ≡ waits (content_in store.now) (plain_ask ask.now) }
+    ensures searches { All (λ m. steps.new ≤ steps.old + cost_in store.now m) (template_of (plain_ask ask.now)) }
+    ensures others { template_of (plain_ask ask.now) ≡ [] → steps.new ≡ steps.old }
+    ensures later { steps.old ≤ steps.new }
+{
+    match ask {
+        Ask::In(template) | Ask::Rd(template) => !store.has(template, steps),
+        _ => false,
+    }
+}
+
 // `NotYet` exactly where the operation waits, and else the other answer.
-fn refuse<L: Ledger>(
-    store: &Store,
-    ask: &Ask,
-    buffer: &mut Tuple,
-    otherwise: Planned,
-    steps: &mut Steps<L>,
-) -> Planned
-    requires fits { All (λ m. IsTrue (fitted_by store.now (content_in store.now) m)) (template_of (plain_ask ask.now)) }
-    requires room { HasRoom MOST_FIELDS buffer.old }
+fn refuse<L: Ledger>(store: &Store, ask: &Ask, otherwise: Planned, steps: &mut Steps<L>) -> Planned
+    requires { All (λ m. IsTrue (fitted_by store.now (content_in store.now) m)) (template_of (plain_ask ask.now)) }
     ensures answer { result ≡ (if waits (content_in store.now) (plain_ask ask.now) then Planned.NotYet else otherwise) }
     ensures searches { All (λ m. steps.new ≤ steps.old + cost_in store.now m) (template_of (plain_ask ask.now)) }
     ensures others { template_of (plain_ask ask.now) ≡ [] → steps.new ≡ steps.old }
     ensures later { steps.old ≤ steps.new }
-    ensures room { capacity_of buffer.new ≡ capacity_of buffer.old }
 {
-    match ask {
-        Ask::In(template) | Ask::Rd(template) => {
-            if store.find(template, buffer, steps) {
-                otherwise
-            } else {
-                Planned::NotYet
-            }
-        }
-        _ => otherwise,
+    if waits_in(store, ask, steps) {
+        Planned::NotYet
+    } else {
+        otherwise
     }
 }
 

@@ -107,6 +107,15 @@ impl TupleStore for Store {
         }
     }
 
+    fn has<L: Ledger>(&self, template: &Template, steps: &mut Steps<L>) -> bool {
+        match self {
+            Store::Counter(counter) => counter.has(template, steps),
+            Store::Queue(queue) => queue.has(template, steps),
+            Store::Keyed(keyed) => keyed.has(template, steps),
+            Store::Listed(listed) => listed.has(template, steps),
+        }
+    }
+
     fn len(&self) -> u64 {
         match self {
             Store::Counter(counter) => counter.len(),

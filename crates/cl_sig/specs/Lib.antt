@@ -8,4 +8,5 @@ pub mod Fields
 pub mod Classes
 pub mod Shapes
 pub mod Suits
+pub mod Storable
 pub mod Views

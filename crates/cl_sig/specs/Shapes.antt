@@ -1,7 +1,9 @@
 -- The shape of a set: its number, its class, its sites, and what they have in common. (This project.)
-use Rattle.std.specs.Prelude.{ℕ, ◌+◌, ◌==◌, if◌then◌else◌, List, [], ◌∷◌, Option, Some, None}
+use Rattle.std.specs.Prelude.{ℕ, ◌+◌, ◌==◌, if◌then◌else◌, List, [], ◌∷◌, map, Option, Some, None}
+use Rattle.std.specs.List.{range_with_len}
 use Rattle.cl_value.specs.declared.value.Value.{Value}
 use Rattle.cl_sig.specs.Classes.{members, constant_at, class}
+use Rattle.cl_sig.specs.Numbers.{count_of}
 use Rattle.cl_sig.specs.Signatures.{PlainSignature, mark_type}
 use Rattle.cl_sig.specs.declared.signature.Kind.TheVariants as kinds
 use Rattle.cl_sig.specs.declared.signature.Mark.{Mark}
@@ -19,6 +21,10 @@ pub record PlainShape : Type 0 where
 abbrev pub sites_from : ℕ → List ℕ → ℕ → List ℕ
 sites_from site [] set = []
 sites_from site (n ∷ numbers) set = if n == set then site ∷ sites_from (site + 1) numbers set else sites_from (site + 1) numbers set
+
+-- the sites of each set, in order of the sets
+abbrev pub sites_of_sets : List ℕ → List (List ℕ)
+sites_of_sets numbers = map (sites_from 0 numbers) (range_with_len 0 (count_of numbers))
 
 -- a field that all have in common: their literal, or its type
 abbrev pub common_mark : Option Value → Mark → Mark

@@ -1,8 +1,8 @@
 -- When a request suits the shape of a set, so that the set's store can do it. (This project.)
-use Rattle.std.specs.Prelude.{Bool, true, false, ◌&&◌, ◌||◌, ◌==◌, List, Option, Some, slice_get}
-use Rattle.std.specs.List.{list_any}
+use Rattle.std.specs.Prelude.{Bool, true, false, ◌&&◌, ◌||◌, List, Option, Some, slice_get}
 use Rattle.cl_value.specs.Matching.{same_type, same_value, type_of}
 use Rattle.cl_value.specs.Plain.{PlainPart, Ready, Call, PlainAsk, Out, In, Rd, Inp, Rdp, Eval, Land, PlainRequest}
+use Rattle.cl_value.specs.Acts.{is_site_of}
 use Rattle.cl_value.specs.declared.value.Value.{Value}
 use Rattle.cl_value.specs.declared.value.FieldType.{FieldType}
 use Rattle.cl_value.specs.declared.template.Slot.{Slot}
@@ -83,4 +83,4 @@ ask_suits shape (Land t) = tuple_suits shape t
 
 -- whether a request suits: its site is one of the set's, and its operation suits
 abbrev pub suits : PlainShape → PlainRequest → Bool
-suits shape request = list_any (λ site. site == request.site) shape.sites && ask_suits shape request.ask
+suits shape request = is_site_of shape.sites request.site && ask_suits shape request.ask

@@ -5,7 +5,8 @@ use Rattle.std.proofs.lemmas.List.Elements.{All-head, All-append, All-drop, All-
 use Rattle.std.proofs.Math.Seq.{drop-cons}
 use Rattle.std.specs.Prelude.{All, Contains}
 use Rattle.cl_store.proofs.Matches.{All-without_first}
-use Rattle.cl_store.specs.Answers.{answer, answers, left_after, tuple_of, tuples_of, template_of, templates_of, IsStoreAsk, take_answer, read_answer, take_now_answer, read_now_answer}
+use Rattle.cl_store.specs.Answers.{answers, left_after, tuple_of, tuples_of, template_of, templates_of, IsStoreAsk}
+use Rattle.cl_value.specs.Answers.{answer, take_answer, read_answer, take_now_answer, read_now_answer}
 use Rattle.cl_value.specs.Plain.{PlainAsk, Out, In, Rd, Inp, Rdp, Eval, Land, PlainWhat}
 use Rattle.cl_value.specs.Replay.{found, replayed}
 use Rattle.cl_value.specs.declared.value.Value.{Value}

@@ -1,7 +1,8 @@
 ghost use Rattle.std.specs.Prelude.{◌≡◌, ◌≤◌, ℕ, List, ◌++◌, length, map, option_map, All, Contains, IsTrue, IfOk, OnErr, take as front};
 ghost use Rattle.cl_value.specs.Views.{plain_ask, plain_what};
 ghost use Rattle.cl_value.specs.Replay.{found, without_first, replayed};
-ghost use Rattle.cl_store.specs.Answers.{answer, answers, left_after, tuple_of, tuples_of, template_of, templates_of, IsStoreAsk};
+ghost use Rattle.cl_store.specs.Answers.{answers, left_after, tuple_of, tuples_of, template_of, templates_of, IsStoreAsk};
+ghost use Rattle.cl_value.specs.Answers.{answer};
 ghost use Rattle.cl_value.specs.declared.value.Value.{Value};
 
 use crate::TupleStore;

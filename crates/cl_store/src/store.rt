@@ -82,6 +82,13 @@ pub trait TupleStore {
         ensures cost { steps.new ≤ steps.old + cost self.now template.now.items }
         ensures later { steps.old ≤ steps.new };
 
+    /// Whether some tuple matches. It copies nothing and takes no memory.
+    fn has<L: Ledger>(&self, template: &Template, steps: &mut Steps<L>) -> bool
+        requires fits { IsTrue (fits self.now (content self.now) template.now.items) }
+        ensures value { result ≡ is_some (first_match (content self.now) template.now.items) }
+        ensures cost { steps.new ≤ steps.old + cost self.now template.now.items }
+        ensures later { steps.old ≤ steps.new };
+
     /// The number of tuples.
     #[allow(clippy::len_without_is_empty)]
     fn len(&self) -> u64

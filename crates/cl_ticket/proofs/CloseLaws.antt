@@ -8,11 +8,11 @@ use native.Mathlib.Decide.{ℕ_discrete}
 use lib.ListN.{get_elem?}
 use Rattle.cl_value.specs.Plain.{PlainAct, PlainHistory}
 use Rattle.cl_value.specs.Acts.{is_eval, acts_of, names_made}
-use Rattle.cl_value.specs.Tickets.{acts_in, by_ticket, NumberedFrom}
+use Rattle.cl_value.specs.Tickets.{acts_in, by_ticket, NumberedFrom, Rises}
 use Rattle.cl_ticket.specs.Weights.{weigh, upto, under, Each}
 use Rattle.cl_ticket.specs.Participants.{Birth, Mark, Origin, Root, Born, Participant}
 use Rattle.cl_ticket.specs.Codes.{birth_coded}
-use Rattle.cl_ticket.specs.Rule.{if_eval, is, marks, numbers, name_of, depth_of, by_birth, by_root, in_sets, Rises, FitsParticipant, FitsHistory, halters, Ruled}
+use Rattle.cl_ticket.specs.Rule.{if_eval, is, marks, numbers, name_of, depth_of, by_birth, by_root, in_sets, FitsParticipant, FitsHistory, halters, Ruled}
 use Rattle.cl_ticket.specs.Steps.{birth, end_view, tickets_of}
 use Rattle.cl_ticket.specs.Tokens.{SetToken, ProcessToken, participants_of, with_gathered}
 use Rattle.cl_ticket.specs.Starts.{start_of}

@@ -3,7 +3,8 @@ use Rattle.std.proofs.Common.{eq-eqb, ◌≡◌, ℕ, zero, suc, ◌+◌, ◌-�
 use mathlib.Core.Option.{some}
 use lib.ListN.{get_elem?}
 use Rattle.cl_ticket.specs.Weights.{weigh, under, Each}
-use Rattle.cl_ticket.specs.Rule.{FitsUnborn, of_ticket, set_view, name_of, depth_of, by_birth, by_root, if_eval, in_sets, of_participants, evals, births, numbers, known, opened, Rises, Fits, FitsSet, FitsParticipant, Ruled}
+use Rattle.cl_ticket.specs.Rule.{FitsUnborn, of_ticket, set_view, name_of, depth_of, by_birth, by_root, if_eval, in_sets, of_participants, evals, births, numbers, known, opened, Fits, FitsSet, FitsParticipant, Ruled}
+use Rattle.cl_value.specs.Tickets.{Rises}
 use Rattle.cl_ticket.specs.Steps.{with_act, plain_history, act_of, drawn_view, unborn_after}
 use Rattle.cl_value.specs.Plain.{PlainWhat, PlainAct, PlainHistory}
 use Rattle.cl_value.specs.Acts.{is_eval}

@@ -1,13 +1,13 @@
 -- What the rule says of one view that has everything, in plain words.
-use Rattle.std.proofs.Common.{◌≡◌, ◌≢◌, ℕ, eqb, eq-eqb, ne_eqb, zero, suc, ◌+◌, ◌<◌, ◌≤◌, List, [], ◌∷◌, Bool, true, false, true≢false, refl, sym, ap, arith, ◌∙◌}
+use Rattle.std.proofs.Common.{◌≡◌, ◌≢◌, ℕ, eqb, eq-eqb, ne_eqb, zero, suc, ◌+◌, ◌<◌, ◌≤◌, List, [], ◌∷◌, Bool, true, false, refl, sym, ap, arith, ◌∙◌}
 use Rattle.std.specs.Prelude.{nat_lt, if◌then◌else◌}
 use mathlib.Core.Option.{some, some-injective, some-ne-none}
 use mathlib.Core.Logic.{dite}
 use native.Mathlib.Decide.{ℕ_discrete}
 use lib.ListN.{get_elem?}
 use Rattle.cl_ticket.specs.Weights.{weigh, under, upto, Each}
-use Rattle.cl_ticket.specs.Rule.{is, name_of, by_birth, by_root, if_eval, in_sets, of_participants, births, known, Rises, Fits, FitsSet, FitsParticipant, Ruled}
-use Rattle.cl_value.specs.Tickets.{placed, in_order, acts_in}
+use Rattle.cl_ticket.specs.Rule.{is, name_of, by_birth, by_root, if_eval, in_sets, of_participants, births, known, Fits, FitsSet, FitsParticipant, Ruled}
+use Rattle.cl_value.specs.Tickets.{Rises, placed, in_order, acts_in}
 use Rattle.cl_value.specs.Plain.{PlainAct, PlainHistory}
 use Rattle.cl_value.specs.Acts.{is_eval, acts_of}
 use Rattle.cl_ticket.specs.Participants.{Birth, Origin, Root, Born, Participant}

@@ -1,7 +1,8 @@
 -- From weights to lists: lists of acts whose tickets rise are equal where they weigh the same.
 use Rattle.std.proofs.Common.{◌≡◌, ◌≢◌, ◌⊎◌, inl, inr, ℕ, eqb, eq-eqb, ne_eqb, ◌<◌, ◌≤◌, List, [], ◌∷◌, refl, sym, ap, subst, arith}
 use Rattle.cl_ticket.specs.Weights.{weigh}
-use Rattle.cl_ticket.specs.Rule.{if_eval, Rises}
+use Rattle.cl_ticket.specs.Rule.{if_eval}
+use Rattle.cl_value.specs.Tickets.{Rises}
 use Rattle.cl_value.specs.Plain.{PlainAct}
 use Rattle.cl_ticket.proofs.Apart.{acts-told-apart}
 

@@ -3,10 +3,10 @@ use Rattle.std.specs.Prelude.{◌≡◌, ℕ, suc, ◌+◌, ◌<◌, ◌≤◌, 
 use mathlib.Core.List.{IsPrefix}
 use Rattle.cl_value.specs.Plain.{PlainAct, PlainHistory, Lives}
 use Rattle.cl_value.specs.Acts.{is_eval, acts_of}
-use Rattle.cl_value.specs.Tickets.{by_ticket}
+use Rattle.cl_value.specs.Tickets.{by_ticket, Rises}
 use Rattle.cl_ticket.specs.Weights.{weigh, Each}
 use Rattle.cl_ticket.specs.Participants.{Birth, Mark, Born, Participant}
-use Rattle.cl_ticket.specs.Rule.{is, name_of, depth_of, Agrees, Rises}
+use Rattle.cl_ticket.specs.Rule.{is, name_of, depth_of, Agrees}
 use Rattle.cl_ticket.specs.Steps.{tickets_of}
 use Rattle.cl_ticket.specs.Starts.{start_of, live_of}
 

@@ -2,6 +2,7 @@
 use Rattle.std.specs.Prelude.{◌≡◌, ℕ, suc, ◌+◌, ◌<◌, ◌≤◌, List, [], ◌∷◌, ◌++◌, length, Bool, true, false, Option, IfSome}
 use Rattle.cl_ticket.specs.Weights.{weigh, upto, under, Each}
 use Rattle.cl_value.specs.Plain.{PlainAct, PlainHistory}
+use Rattle.cl_value.specs.Tickets.{Rises}
 use Rattle.cl_value.specs.Acts.{is_eval}
 use Rattle.std.proofs.Common.{eqb}
 use mathlib.Core.List.{IsPrefix}
@@ -85,11 +86,6 @@ known f v = weigh f v.opening + weigh (λ (p : Participant). by_root f p.origin)
 -- how many sets the opener knows of: one number
 abbrev pub opened : View → ℕ
 opened v = length v.opening
-
--- the tickets rise, from above n
-abbrev pub Rises : ℕ → List PlainAct → Type 0
-Rises n [] = Unit {0}
-Rises n (a ∷ more) = (n < a.ticket) × Rises a.ticket more
 
 -- at most 2^24 acts, by rising ticket
 abbrev pub FitsSet : PlainHistory → Type 0

@@ -1,5 +1,5 @@
 -- What contracts see in the tokens of a run, as plain data. (This project.)
-use Rattle.std.specs.Prelude.{◌≡◌, refl, ℕ, zero, suc, Bool, true, false, List, [], ◌∷◌, ◌++◌, Option, Some, None}
+use Rattle.std.specs.Prelude.{◌≡◌, refl, ℕ, zero, suc, List, [], ◌∷◌, ◌++◌, Option, Some, None}
 use Rattle.std.specs.Coded.{Coded, code_by, coded×, coded_list, coded_option}
 use Rattle.atomic_table.specs.Seated.{TableId}
 use Rattle.cl_value.specs.Plain.{PlainAct, PlainHistory}
@@ -69,10 +69,9 @@ new_set_tokens (suc n) = new_set_tokens n ++ new_set_token n ∷ []
 abbrev pub with_guest : SetToken → Option ProcessToken → SetToken
 with_guest s guest = record { history = s.history; guest = guest; unborn = s.unborn }
 
--- the process that leaves a set: where the set is full, it is marked with the set's acts
-abbrev pub process_leaving : Bool → SetToken → ProcessToken
-process_leaving true s = record { participant = with_mark (guest_of s).participant s.history; gathered = (guest_of s).gathered }
-process_leaving false s = guest_of s
+-- the process that leaves a full set is marked with the set's acts
+abbrev pub marked_guest : SetToken → ProcessToken
+marked_guest s = record { participant = with_mark (guest_of s).participant s.history; gathered = (guest_of s).gathered }
 
 -- the act stands at the end of the set's acts and of the guest's; an eval waits for its process
 abbrev pub with_drawn : SetToken → PlainAct → SetToken
@@ -94,9 +93,9 @@ newborn b = new_process_token (participant (Born b) [])
 abbrev pub with_gathered : ProcessToken → ProcessToken → ProcessToken
 with_gathered p q = record { participant = p.participant; gathered = p.gathered ++ participants_of q }
 
--- the process failed, and saw the name that this number in word 1 stands for
+-- the process failed, and saw that the process of this name failed first
 abbrev pub after_halt : ProcessToken → ℕ → ProcessToken
-after_halt p m = record { participant = with_halt p.participant m; gathered = p.gathered }
+after_halt p by = record { participant = with_halt p.participant (suc by); gathered = p.gathered }
 
 -- the process saw who failed first, or that nobody had failed
 abbrev pub after_sight : ProcessToken → Option ℕ → ProcessToken

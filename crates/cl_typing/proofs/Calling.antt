@@ -160,17 +160,17 @@ module _ (R : PlainRequest → Type 0) (kept : Variables → Type 0) where
       keeps_bind R kept (AreArguments ps) (AreArguments (p ∷ ps)) (arguments ps vs) _ (arguments_keep ps vs (cc)) (λ ws are.
       keeps_pure R kept (AreArguments (p ∷ ps)) (w ∷ ws) (is, are)))
 
-  -- a call with its number
-  abbrev pub LiveSuits : List Function → Option TypeName → PlainPart → Type 0
-  LiveSuits functions type (Call number vs gives) = (f : Function) × (slice_get functions number ≡ Some f) × (function_in functions f.name.bytes ≡ Some f) × AreArguments f.parameters vs × (gives ≡ field_type (result_type f)) × HasFieldType type gives
-  LiveSuits functions type _ = ⊥
+  -- a call of the function of this name, with its number
+  abbrev pub LiveSuits : List Function → Name → Option TypeName → PlainPart → Type 0
+  LiveSuits functions name type (Call number vs gives) = (f : Function) × (slice_get functions number ≡ Some f) × (function_in functions f.name.bytes ≡ Some f) × AreArguments f.parameters vs × (gives ≡ field_type (result_type f)) × HasFieldType type gives × (number ≡ number_of name functions)
+  LiveSuits functions name type _ = ⊥
 
-  pub live_keeps : (functions : List Function) (name : Name) (type : Option TypeName) (vs : List Value) → Callable functions name type (length vs) → Keeps R kept (LiveSuits functions type) (live_call functions name vs)
+  pub live_keeps : (functions : List Function) (name : Name) (type : Option TypeName) (vs : List Value) → Callable functions name type (length vs) → Keeps R kept (LiveSuits functions name type) (live_call functions name vs)
   unfolding live_call
   live_keeps functions name type vs c =
       let f = c.function in
-      let Q = Keeps R kept (LiveSuits functions type) in
+      let Q = Keeps R kept (LiveSuits functions name type) in
       subst Q (sym (named_is _ functions name f _ c.found))
-      (keeps_bind R kept (AreArguments f.parameters) (LiveSuits functions type) (arguments f.parameters vs) _ (arguments_keep f.parameters vs c.count) (λ ws are.
-      keeps_pure R kept (LiveSuits functions type) (Call (number_of name functions) ws (field_type (result_type f)))
-      (f, number_gets functions name f c.found, named_own functions name f c.found, are, refl, subst (λ t. HasFieldType t (field_type (result_type f))) (sym c.result) (field_result f.result f.name f.parameters f.body f.span))))
+      (keeps_bind R kept (AreArguments f.parameters) (LiveSuits functions name type) (arguments f.parameters vs) _ (arguments_keep f.parameters vs c.count) (λ ws are.
+      keeps_pure R kept (LiveSuits functions name type) (Call (number_of name functions) ws (field_type (result_type f)))
+      (f, number_gets functions name f c.found, named_own functions name f c.found, are, refl, subst (λ t. HasFieldType t (field_type (result_type f))) (sym c.result) (field_result f.result f.name f.parameters f.body f.span), refl)))

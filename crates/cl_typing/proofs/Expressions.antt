@@ -1,5 +1,5 @@
 -- Where no fault is noted in an expression, what it gives is of the type that is judged of it, and so is each field of each request.
-use Rattle.std.proofs.Common.{◌≡◌, ◌∙◌, ap, sym, subst, refl, ℕ, suc, Bool, true, false, not, List, [], ◌∷◌, ◌++◌, map, length, Option, Some, None}
+use Rattle.std.proofs.Common.{◌≡◌, ◌∙◌, ap, sym, subst, refl, ℕ, suc, ◌<◌, Bool, true, false, not, List, [], ◌∷◌, ◌++◌, map, length, Option, Some, None, ltb-true}
 use Rattle.std.specs.Prelude.{option_map, nat_lt, Ok}
 use Rattle.std.specs.List.{AllByRecursion}
 use Rattle.cl_value.specs.declared.value.Value.{Value}
@@ -18,7 +18,7 @@ use Rattle.cl_ast.specs.declared.tree.Verb.{Verb}
 use Rattle.cl_ast.specs.declared.tree.Verb.TheVariants as verbs
 use Rattle.cl_ast.specs.declared.tree.Expr.{Expr}
 use Rattle.cl_ast.specs.declared.tree.Expr.TheVariants as exprs
-use Rattle.cl_ast.specs.declared.tree.Expr.TheViews.{outs-Text}
+use Rattle.cl_ast.specs.declared.tree.Expr.TheViews.{outs-Text, outs-Plain, outs-Call}
 use Rattle.cl_ast.specs.declared.tree.Place.{Place, out-Place}
 use Rattle.cl_ast.specs.declared.tree.Call.{Call, out-Call}
 use Rattle.cl_ast.specs.declared.tree.Operation.{Operation, out-Operation}
@@ -63,7 +63,7 @@ use Rattle.cl_types.proofs.Judging.{all_length}
 use Rattle.cl_types.proofs.Clean.{Clean, clean_split, none_found}
 use Rattle.cl_typing.specs.Values.{IsOf, IsOfFound, IsFoundNumber, ValueIs}
 use Rattle.cl_typing.specs.Standing.{FitsAs, Fits, Scene}
-use Rattle.cl_typing.specs.Requests.{bytes_rule, Beside, ValueSuits, SlotSuits, PartSuits, AskSuits, Allows}
+use Rattle.cl_typing.specs.Requests.{bytes_rule, callee_rule, field_callee_rule, callee, Beside, ValueSuits, SlotSuits, PartSuits, AskSuits, IsShallow, Allows}
 use Rattle.cl_typing.specs.Steps.{Keeps}
 use Rattle.cl_typing.proofs.Leading.{Paired, keeps_bind, keeps_then, keeps_more, keeps_both, keeps_pure, keeps_trap, keeps_checked, keeps_ask, keeps_if, keeps_each}
 use Rattle.cl_typing.proofs.Operating.{truth_is, literal_is, literal_number, operated_is, LooksAtBoth, negated_is}
@@ -101,7 +101,7 @@ module _ (R : PlainRequest → Type 0) (around : Surroundings) (functions : List
   Kept c all = Fits globals (c.outer ++ c.inner ∷ []) all
 
   abbrev pub Allowed : Forms → Type 0
-  Allowed fs = Allows around.text functions around.site R fs
+  Allowed fs = Allows around.text functions around.depth around.site R fs
 
   abbrev pub Suiting : Known → Field → PlainPart → Type 0
   Suiting known f part = PartSuits around.text functions f (field_form f known) part
@@ -222,9 +222,12 @@ module _ (R : PlainRequest → Type 0) (around : Surroundings) (functions : List
       let may = may_call functions globals c.outer c.inner c.known c.sees name.bytes purpose (length parts) none in
       (subst (λ (j : Judged). Callable functions name.bytes j.type (length (out-Call x).arguments)) (sym is) (subst (Callable functions name.bytes (called_type what)) (sym (all_length c.known (out-Call x).arguments)) may), two.1)
 
-  live_suits : (f : Field) (t : Option TypeName) (part : PlainPart) → LiveSuits R (λ v. Unit {0}) functions t part → PartSuits around.text functions f (findings.Actual t) part
-  live_suits f t (Ready v) h = absurd h
-  live_suits f t (Calls number vs gives) h = h
+  live_suits : (f : Field) (name : Name) (t : Option TypeName) (part : PlainPart) → callee f ≡ Some name → LiveSuits R (λ v. Unit {0}) functions name t part → PartSuits around.text functions f (findings.Actual t) part
+  live_suits f name t (Ready v) is h = absurd h
+  live_suits f name t (Calls number vs gives) is h = (h.0, h.1, h.2, h.3, h.4, h.5, (name, is, h.6))
+
+  callee_is : (x : Call) → callee (fields.Plain (exprs.Call x)) ≡ Some (out-Call x).name.bytes
+  callee_is x = ap field_callee_rule (outs-Plain (exprs.Call x)) ∙ ap callee_rule (outs-Call x)
 
   -- ---- calls may be done, and live calls are those of the text
 
@@ -249,8 +252,8 @@ module _ (R : PlainRequest → Type 0) (around : Surroundings) (functions : List
         let form : field_form (fields.Plain (exprs.Call x)) c.known ≡ findings.Actual t =
         finding.expr_form (exprs.Call x) c.known ∙ (ap (λ n. plain_form n (judged (exprs.Call x) c.known).type) (rules.constant_call x c.known) ∙ ap (λ (j : Judged). findings.Actual j.type) (rules.of_call x c.known)) in
         let done : (vs : List Value) → length vs ≡ length xs → Keeps R (Kept c) Q (live_call functions name vs) =
-        λ vs same. keeps_more R (Kept c) (LiveSuits R (Kept c) functions t) Q (live_call functions name vs) (live_keeps R (Kept c) functions name t vs (subst (Callable functions name t) (sym same) may.0))
-        (λ part p. subst (λ y. PartSuits around.text functions (fields.Plain (exprs.Call x)) y part) (sym form) (live_suits (fields.Plain (exprs.Call x)) t part p)) in
+        λ vs same. keeps_more R (Kept c) (LiveSuits R (Kept c) functions name t) Q (live_call functions name vs) (live_keeps R (Kept c) functions name t vs (subst (Callable functions name t) (sym same) may.0))
+        (λ part p. subst (λ y. PartSuits around.text functions (fields.Plain (exprs.Call x)) y part) (sym form) (live_suits (fields.Plain (exprs.Call x)) name t part (callee_is x) p)) in
         subst (Keeps R (Kept c) Q) (sym (equations.part_of_call around x))
         (keeps_bind R (Kept c) (λ vs. length vs ≡ length xs) Q (each (map (value around) xs)) (around.live_call name) (g c may.1 allowed) (λ vs same. subst (Keeps R (Kept c) Q) (sym (live_is name vs)) (done vs same)))
 
@@ -475,14 +478,14 @@ module _ (R : PlainRequest → Type 0) (around : Surroundings) (functions : List
       (λ reply u. received_keeps c aims reply (can_fill c verb xs aims p)))
 
   evaluated_keeps : (c : Here) (depth site : ℕ) (verb : Verb) (xs : List Field) → verb ≡ verbs.Eval → AllByRecursion (FieldLaw c verb) xs →
-      ((live : List PlainPart) → Paired (λ x part. Suiting c.known x part) xs live → R (record { site = site; ask = Eval live })) → Keeps R (Kept c) (IsOf types.Int) (evaluated depth site (map (field_part around) xs))
+      ((live : List PlainPart) → Paired (λ x part. Suiting c.known x part) xs live → depth < 64 → R (record { site = site; ask = Eval live })) → Keeps R (Kept c) (IsOf types.Int) (evaluated depth site (map (field_part around) xs))
   unfolding evaluated
   evaluated_keeps c depth site verb xs is h r =
       let P : Field → PlainPart → Type 0 = λ x part. Suiting c.known x part in
       keeps_bind R (Kept c) (Paired P xs) (IsOf types.Int) (each (map (field_part around) xs)) _ (keeps_each R (Kept c) P (field_part around) xs (parts_keep c verb xs is h)) (λ live p.
       keeps_if R (Kept c) (IsOf types.Int) (nat_lt depth 64) (ask (record { site = site; ask = Eval live }) >> pure (truth true)) (trap EvalDepth)
       (λ few. keeps_then R (Kept c) (λ q. Unit {0}) (IsOf types.Int) (ask (record { site = site; ask = Eval live })) (pure (truth true))
-      (keeps_ask R (Kept c) (λ q. Unit {0}) (record { site = site; ask = Eval live }) (r live p) (λ reply fit. tt)) (keeps_pure R (Kept c) (IsOf types.Int) (truth true) (truth_is true)))
+      (keeps_ask R (Kept c) (λ q. Unit {0}) (record { site = site; ask = Eval live }) (r live p (ltb-true depth 64 few)) (λ reply fit. tt)) (keeps_pure R (Kept c) (IsOf types.Int) (truth true) (truth_is true)))
       (λ many. keeps_trap R (Kept c) (IsOf types.Int) EvalDepth))
 
   eval_or_not : (verb : Verb) (A : Type 0) → (verb ≡ verbs.Eval → A) → ((verb ≡ verbs.Eval → ⊥) → A) → A
@@ -492,6 +495,14 @@ module _ (R : PlainRequest → Type 0) (around : Surroundings) (functions : List
   eval_or_not verbs.Rd A f g = g (λ e. cc)
   eval_or_not verbs.Inp A f g = g (λ e. cc)
   eval_or_not verbs.Rdp A f g = g (λ e. cc)
+
+  asked_shallow : (depth : ℕ) (verb : Verb) (aims : List Aim) → IsShallow depth (asked verb aims)
+  asked_shallow depth verbs.Out aims = tt
+  asked_shallow depth verbs.In aims = tt
+  asked_shallow depth verbs.Rd aims = tt
+  asked_shallow depth verbs.Inp aims = tt
+  asked_shallow depth verbs.Rdp aims = tt
+  asked_shallow depth verbs.Eval aims = tt
 
   operation_good : (o : Operation) (ys : List ((x : Field) × GoodField x)) → map (λ y. y.0) ys ≡ (out-Operation o).fields → GoodOperation o
   operation_good o ys h c clean allowed =
@@ -507,8 +518,8 @@ module _ (R : PlainRequest → Type 0) (around : Surroundings) (functions : List
       let Q = Keeps R (Kept c) (IsOf types.Int) in
       eval_or_not verb (Q (operation around o))
       (λ is. subst Q (sym (equations.operation_spawns around o is)) (evaluated_keeps c around.depth (around.site at) verb xs is all
-      (λ live p. may.0 (Eval live) (subst (λ v. AskSuits around.text functions v xs (own_forms xs c.known) (Eval live)) (sym is) (beside_found (PartSuits around.text functions) c.known xs live p)))))
-      (λ other. subst Q (sym (equations.operation_requests around o other)) (requested_keeps c (around.site at) verb xs all (λ aims p. may.0 (asked verb aims) (ask_suits c verb xs aims other p))))
+      (λ live p few. may.0 (Eval live) (subst (λ v. AskSuits around.text functions v xs (own_forms xs c.known) (Eval live)) (sym is) (beside_found (PartSuits around.text functions) c.known xs live p)) few)))
+      (λ other. subst Q (sym (equations.operation_requests around o other)) (requested_keeps c (around.site at) verb xs all (λ aims p. may.0 (asked verb aims) (ask_suits c verb xs aims other p) (asked_shallow around.depth verb aims))))
 
   -- ---- chains
 

@@ -36,14 +36,14 @@ use Rattle.cl_typing.proofs.Calling.{GivesResult, CallsRight, named_is}
 use Rattle.cl_typing.proofs.Statements.{every_block}
 
 -- a function without faults, with what is known at its statements
-pub record Fine (R : PlainRequest → Type 0) (text : List ℕ → ℕ) (site : ℕ → ℕ) (functions : List Function) (globals : List Declaration) (f : Function) : Type 0 where
+pub record Fine (R : PlainRequest → Type 0) (text : List ℕ → ℕ) (depth : ℕ) (site : ℕ → ℕ) (functions : List Function) (globals : List Declaration) (f : Function) : Type 0 where
   pub own : function_in functions f.name.bytes ≡ Some f
   pub known : Known
   pub sees : Sees functions globals [] (parameters_declared f.parameters) known
   pub fresh : Fresh (parameters_declared f.parameters) known
   pub settled : is_settled f.body ≡ true
   pub clean : Clean (block_walked f.body (function_context f) known).notes
-  pub allowed : Allows text functions site R (block_forms f.body known)
+  pub allowed : Allows text functions depth site R (block_forms f.body known)
 
 named_none : {A : Type 0} (none : A) (functions : List Function) (name : Name) (go : Function → Does A) → function_in functions name ≡ None → function_named none functions name go ≡ pure none
 unfolding function_named
@@ -65,7 +65,7 @@ all_in P (g ∷ gs) name f h is = by (same_name name g.name.bytes) is (λ e. all
 
 module _ (R : PlainRequest → Type 0) (fixed : Fixed) (globals : List Declaration) where
   abbrev pub FineHere : Function → Type 0
-  FineHere f = Fine R fixed.text fixed.site fixed.functions globals f
+  FineHere f = Fine R fixed.text fixed.depth fixed.site fixed.functions globals f
 
   parameters_keep : (kept : Variables → Type 0) (ps : List Parameter) (vs : List Value) → length ps ≡ length vs → Keeps R kept (FitsScope (parameters_declared ps)) (parameters ps vs)
   unfolding parameters parameter

@@ -15,7 +15,8 @@ use Rattle.cl_ast.specs.declared.tree.Constant.TheVariants as constants
 use Rattle.cl_ast.specs.declared.tree.Operator.{Operator}
 use Rattle.cl_ast.specs.declared.tree.Operator.TheVariants as operators
 use Rattle.cl_model.specs.Doing.{Checked}
-use Rattle.cl_model.specs.Numbers.{number, truth, is_zero, is_within, int_or_trap, long_or_trap, in_common, and_then, quotient, negated}
+use Rattle.cl_model.specs.Numbers.{number, truth, is_zero, int_or_trap, long_or_trap, in_common, and_then, quotient, negated}
+use Rattle.cl_value.specs.Ranges.{is_within}
 use Rattle.cl_meaning.specs.Operators.{literal, field_type, converted, operated}
 use Rattle.cl_types.specs.declared.declared.Number.{Number}
 use Rattle.cl_types.specs.Numbers.{literal_value, plain_number, number_value, number_type}

@@ -124,7 +124,7 @@ module _ (R : PlainRequest → Type 0) (around : Surroundings) (functions : List
   Kept c all = Fits globals (c.outer ++ c.inner ∷ []) all
 
   abbrev pub Allowed : Forms → Type 0
-  Allowed fs = Allows around.text functions around.site R fs
+  Allowed fs = Allows around.text functions around.depth around.site R fs
 
   -- variables keep their types, and no scope gets more of them
   abbrev pub Safe : {A : Type 0} → Here → Does A → Type 0

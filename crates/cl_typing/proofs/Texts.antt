@@ -213,12 +213,12 @@ module _ (functions : List Function) where
     unseen = λ name h. refl;
   }
 
-  module _ (R : PlainRequest → Type 0) (text : List ℕ → ℕ) (site : ℕ → ℕ) (globals : List Declaration) where
+  module _ (R : PlainRequest → Type 0) (text : List ℕ → ℕ) (depth : ℕ) (site : ℕ → ℕ) (globals : List Declaration) where
     abbrev FineHere : Function → Type 0
-    FineHere f = Fine R text site functions globals f
+    FineHere f = Fine R text depth site functions globals f
 
     abbrev Allowed : Forms → Type 0
-    Allowed fs = Allows text functions site R fs
+    Allowed fs = Allows text functions depth site R fs
 
     -- with what is known at its statements, where this is known before it
     abbrev pub FineAt : Function → Known → Type 0

@@ -1,5 +1,5 @@
 -- What holds of each text without faults in which declarations stand in blocks. (This project.)
-use Rattle.std.specs.Prelude.{◌≡◌, ℕ, true, false, List, [], ◌∷◌, ◌++◌, Some}
+use Rattle.std.specs.Prelude.{◌≡◌, ℕ, ◌<◌, true, false, List, [], ◌∷◌, ◌++◌, Some}
 use Rattle.cl_value.specs.Plain.{PlainRequest, PlainReply, PlainPart, Eval, PlainStart, Lives}
 use Rattle.cl_ast.specs.declared.tree.TypeName.{TypeName}
 use Rattle.cl_ast.specs.declared.tree.Expr.{Expr}
@@ -7,6 +7,8 @@ use Rattle.cl_ast.specs.declared.statement.Stmt.{Stmt}
 use Rattle.cl_ast.specs.declared.statement.Function.{Function}
 use Rattle.cl_ast.specs.declared.statement.Item.{Item}
 use Rattle.cl_ast.specs.declared.statement.Item.TheVariants as items
+use Rattle.cl_model.specs.Demand.{Wants}
+use Rattle.cl_model.specs.Machine.{depth_of}
 use Rattle.cl_meaning.specs.Expressions.{Surroundings, value}
 use Rattle.cl_meaning.specs.Statements.{does}
 use Rattle.cl_meaning.specs.Outer.{functions_of, outer, size_in}
@@ -25,6 +27,7 @@ use Rattle.cl_typing.specs.Values.{IsOf, IsFoundNumber}
 use Rattle.cl_typing.specs.Standing.{Fits, Sees, Fresh, Scene}
 use Rattle.cl_typing.specs.Steps.{Right, Keeps}
 use Rattle.cl_typing.specs.Texts.{outside, parameters_declared, StartFits, IsRequestOf, OutcomeFits}
+use Rattle.cl_ground.specs.declared.limits.TheConstants.{MOST_DEPTH}
 
 -- no fault is noted
 abbrev pub NoFault : List Note → Type 0
@@ -79,6 +82,12 @@ StatementsKeep =
 -- A process that begins as it fits asks for operations of the text, with fields that are as they were found, and finishes with values of their types.
 abbrev pub DemandsFit : Type 0
 DemandsFit = (xs : List Item) → faults xs ≡ [] → are_settled xs ≡ true → (start : PlainStart) → StartFits xs start → (ticks : ℕ) (replies : List PlainReply) → OutcomeFits xs start (demands xs ticks start replies).outcome
+
+-- It asks for an `eval` only where its depth is below 64, so that no process is deeper than that.
+abbrev pub EvalsAreShallow : Type 0
+EvalsAreShallow =
+    (xs : List Item) → faults xs ≡ [] → are_settled xs ≡ true → (start : PlainStart) → StartFits xs start → (ticks : ℕ) (replies : List PlainReply) (q : PlainRequest) (live : List PlainPart) → (demands xs ticks start replies).outcome ≡ Wants q → q.ask ≡ Eval live →
+    depth_of start < MOST_DEPTH
 
 -- What an `eval` makes begins as it fits.
 abbrev pub EvalsFit : Type 0

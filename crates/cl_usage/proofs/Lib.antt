@@ -4,3 +4,4 @@ pub mod Members
 pub mod ClassLaws
 pub mod LawProofs
 pub mod SuitProofs
+pub mod StorableProofs

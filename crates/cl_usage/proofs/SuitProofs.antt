@@ -1,9 +1,9 @@
 -- A request that is an instance of its site's signature suits the shape of its set.
 use Rattle.std.proofs.Common.{◌≡◌, ℕ, zero, suc, ◌+◌, ◌<◌, Bool, true, false, List, [], ◌∷◌, length, Option, Some, None, refl, sym, ◌∙◌, ap, subst, arith, inl, inr}
 use Rattle.std.proofs.lemmas.Bool.{and_from, cases_eq, eq-eqb, ne_eqb}
-use Rattle.std.proofs.lemmas.Option.{slice_get_within}
-use Rattle.std.specs.List.{list_any}
-use Rattle.std.specs.Prelude.{slice_get, ◌||◌, ◌==◌, is_some}
+use Rattle.std.proofs.lemmas.Option.{slice_get_within, slice_get-get_or}
+use Rattle.std.specs.Prelude.{slice_get, get_or, ◌||◌, ◌==◌, is_some}
+use Rattle.cl_value.specs.Acts.{is_site_of}
 use Rattle.cl_value.specs.Matching.{type_of}
 use Rattle.cl_value.specs.Plain.{PlainPart, Ready, Call, PlainAsk, Out, In, Rd, Inp, Rdp, Eval, Land}
 use Rattle.cl_value.specs.declared.value.Value.{Value}
@@ -24,21 +24,21 @@ use Rattle.cl_sig.specs.declared.signature.Mark.TheVariants as marks
 use Rattle.cl_sig.specs.declared.shape.Class.{Class}
 use Rattle.cl_sig.specs.declared.shape.Class.TheVariants as classes
 use Rattle.cl_sig.proofs.MatchLaws.{same_type-true, same_type-at, value_type, slot_fits_type}
-use Rattle.cl_usage.specs.Laws.{IsOf, EachRequestSuits}
+use Rattle.cl_usage.specs.Laws.{IsOf, EachRequestSuits, InstancesSuit}
 use Rattle.cl_usage.proofs.BesideLaws.{beside_length, beside_some, beside_from, map_at}
 use Rattle.cl_usage.proofs.ClassLaws.{queue_free}
 use Rattle.cl_usage.proofs.LawProofs.{fixed_at, received_at, arity_is, types_length, template_keyed}
 use Rattle.cl_usage.proofs.Members.{first_exists, set_types}
 
 -- the sites of a set have the site
-pub sites_have : (k : ℕ) (numbers : List ℕ) (set i : ℕ) → slice_get numbers i ≡ Some set → list_any (λ site. site == k + i) (sites_from k numbers set) ≡ true
+pub sites_have : (k : ℕ) (numbers : List ℕ) (set i : ℕ) → slice_get numbers i ≡ Some set → is_site_of (sites_from k numbers set) (k + i) ≡ true
 sites_have k [] set i h = absurd cc
 sites_have k (n ∷ numbers) set zero h =
     let number : n ≡ set = cc in
     rw (eq-eqb n set number) (rw (eq-eqb k (k + 0) (omega arith)) refl)
 sites_have k (n ∷ numbers) set (suc i) h =
-    let later : list_any (λ site. site == k + suc i) (sites_from (k + 1) numbers set) ≡ true =
-    subst (λ j. list_any (λ site. site == j) (sites_from (k + 1) numbers set) ≡ true) (omega arith) (sites_have (k + 1) numbers set i h) in
+    let later : is_site_of (sites_from (k + 1) numbers set) (k + suc i) ≡ true =
+    subst (λ j. is_site_of (sites_from (k + 1) numbers set) j ≡ true) (omega arith) (sites_have (k + 1) numbers set i h) in
     elim (cases_eq n set) [
       | inl y ↦
           rw (eq-eqb n set y) (ap (λ b. (k == k + suc i) || b) later ∙ any_true (k == k + suc i))
@@ -207,6 +207,14 @@ pub request_suits : EachRequestSuits
 request_suits sites numbers set request partition number instance =
     let found = site_exists (slice_get sites request.site) request.ask instance in
     let of : IsOf sites numbers set request.site found.0 = record { here = found.1; number = number } in
-    and_from (list_any (λ site. site == request.site) (sites_from 0 numbers set)) (ask_suits (shape sites numbers set) request.ask)
-    (subst (λ j. list_any (λ site. site == j) (sites_from 0 numbers set) ≡ true) (omega arith) (sites_have 0 numbers set request.site number))
+    and_from (is_site_of (sites_from 0 numbers set) request.site) (ask_suits (shape sites numbers set) request.ask)
+    (subst (λ j. is_site_of (sites_from 0 numbers set) j ≡ true) (omega arith) (sites_have 0 numbers set request.site number))
     (ask_ok sites numbers set request.site found.0 partition of found.0.kind refl request.ask found.2)
+
+-- and its site is of a set
+pub instances_suit : InstancesSuit
+instances_suit sites numbers partition request instance =
+    let own = site_exists (slice_get sites request.site) request.ask instance in
+    let within : request.site < length numbers = omega (arith, slice_get_within sites request.site own.0 own.1, partition.all) in
+    let number = slice_get-get_or numbers request.site 0 within in
+    record { set = get_or numbers request.site 0; number = number; suits = request_suits sites numbers (get_or numbers request.site 0) request partition number instance }

@@ -1,5 +1,5 @@
 -- What a store may rely on. (This project.)
-use Rattle.std.specs.Prelude.{◌≡◌, ℕ, ◌⊎◌, Bool, true, false, List, Some, slice_get, IsTrue}
+use Rattle.std.specs.Prelude.{◌≡◌, ℕ, ◌<◌, ◌≤◌, ◌⊎◌, Bool, true, false, List, length, Some, slice_get, All, IsTrue}
 use Rattle.cl_value.specs.Matching.{matches}
 use Rattle.cl_value.specs.Plain.{PlainRequest}
 use Rattle.cl_value.specs.declared.value.Value.{Value}
@@ -7,11 +7,14 @@ use Rattle.cl_value.specs.declared.value.Value.TheVariants as values
 use Rattle.cl_value.specs.declared.template.Slot.{Slot}
 use Rattle.cl_sig.specs.Classes.{members, class}
 use Rattle.cl_sig.specs.Instances.{is_tuple_of, is_template_of, is_of_its_site}
+use Rattle.cl_sig.specs.Numbers.{count_of}
 use Rattle.cl_sig.specs.Partitions.{IsPartition}
 use Rattle.cl_sig.specs.Shapes.{shape}
 use Rattle.cl_sig.specs.Signatures.{PlainSignature, is_producer}
+use Rattle.cl_sig.specs.Storable.{IsStorable}
 use Rattle.cl_sig.specs.Suits.{suits, is_actual_at}
 use Rattle.cl_sig.specs.declared.shape.Class.TheVariants as classes
+use Rattle.cl_ground.specs.declared.limits.TheConstants.{MOST_FIELDS}
 
 -- a site has this signature and is of this set
 pub record IsOf (sites : List PlainSignature) (numbers : List ℕ) (set site : ℕ) (signature : PlainSignature) : Type 0 where
@@ -52,6 +55,25 @@ EachRequestSuits =
     → slice_get numbers request.site ≡ Some set
     → IsTrue (is_of_its_site sites request)
     → IsTrue (suits (shape sites numbers set) request)
+
+-- a request's site is of a set, and it suits the shape of that set
+pub record SuitsItsSet (sites : List PlainSignature) (numbers : List ℕ) (request : PlainRequest) : Type 0 where
+  pub set : ℕ
+  pub number : slice_get numbers request.site ≡ Some set
+  pub suits : IsTrue (suits (shape sites numbers set) request)
+
+-- an instance of the signature of its site does
+abbrev pub InstancesSuit : Type 0
+InstancesSuit = (sites : List PlainSignature) (numbers : List ℕ) → IsPartition sites numbers → (request : PlainRequest) → IsTrue (is_of_its_site sites request) → SuitsItsSet sites numbers request
+
+-- a signature has as many fields as a tuple can have, and at least one
+pub record HasFields (s : PlainSignature) : Type 0 where
+  pub some : 0 < length s.fields
+  pub few : length s.fields ≤ MOST_FIELDS
+
+-- where each signature has, a set can be made of the shape of each set
+abbrev pub ShapesAreStorable : Type 0
+ShapesAreStorable = (sites : List PlainSignature) (numbers : List ℕ) → IsPartition sites numbers → All HasFields sites → (set : ℕ) → set < count_of numbers → IsStorable (shape sites numbers set)
 
 -- whether a value is no text
 abbrev pub is_number : Value → Bool

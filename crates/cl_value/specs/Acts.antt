@@ -1,7 +1,10 @@
 -- What an act says of its process: its request, the reply that it got, and whether a reply fits.
 -- (Gelernter 1985; Carriero and Gelernter, "How to Write Parallel Programs".)
-use Rattle.std.specs.Prelude.{ℕ, Bool, true, false, ◌==◌, if◌then◌else◌, List, [], ◌∷◌, Option, Some, None}
+use Rattle.std.specs.Prelude.{◌≡◌, ℕ, Bool, true, false, ◌==◌, if◌then◌else◌, List, [], ◌∷◌, Option, Some, None}
+use Rattle.std.specs.List.{list_any}
 use Rattle.cl_value.specs.Matching.{matches}
+use Rattle.cl_value.specs.declared.value.Value.{Value}
+use Rattle.cl_value.specs.declared.template.Slot.{Slot}
 use Rattle.cl_value.specs.Plain.{PlainAsk, Out, In, Rd, Inp, Rdp, Eval, Land, PlainRequest, PlainWhat, DidOut, DidIn, DidRd, InpHit, InpMiss, RdpHit, RdpMiss, DidEval, DidLand, PlainAct, PlainReply, Done, Got, Miss}
 
 -- the operation that was asked for
@@ -19,6 +22,24 @@ ask_of (DidLand t) = Land t
 -- the request that an act answers
 abbrev pub request_of : PlainAct → PlainRequest
 request_of act = record { site = act.site; ask = ask_of act.what }
+
+-- whether a site is one of these
+abbrev pub is_site_of : List ℕ → ℕ → Bool
+is_site_of sites site = list_any (λ other. other == site) sites
+
+-- an operation adds this tuple
+abbrev pub Adds : PlainAsk → List Value → Type 0
+Adds (Out t) tuple = t ≡ tuple
+Adds (Land t) tuple = t ≡ tuple
+Adds _ tuple = ⊥
+
+-- an operation asks with this template
+abbrev pub AsksWith : PlainAsk → List Slot → Type 0
+AsksWith (In m) template = m ≡ template
+AsksWith (Rd m) template = m ≡ template
+AsksWith (Inp m) template = m ≡ template
+AsksWith (Rdp m) template = m ≡ template
+AsksWith _ template = ⊥
 
 -- what the process is told; a landing has no reply
 abbrev pub reply_of : PlainWhat → Option PlainReply

@@ -5,5 +5,7 @@ pub mod LiveViews
 pub mod Views
 pub mod Acts
 pub mod Replay
+pub mod Answers
 pub mod Tickets
+pub mod Ranges
 pub mod Text

@@ -61,3 +61,14 @@ OldestFrom ts (act ∷ acts) = TakesOldest ts act.what × OldestFrom (replayed t
 -- each act of a history does so
 abbrev pub Oldest : List PlainAct → Type 0
 Oldest acts = OldestFrom [] acts
+
+-- an act that misses does so where no tuple matches
+abbrev pub MissesRightly : List (List Value) → PlainWhat → Type 0
+MissesRightly ts (InpMiss m) = found ts m ≡ None
+MissesRightly ts (RdpMiss m) = found ts m ≡ None
+MissesRightly ts _ = Unit {0}
+
+-- each act does so, from a list before them
+abbrev pub MissesFrom : List (List Value) → List PlainAct → Type 0
+MissesFrom ts [] = Unit {0}
+MissesFrom ts (act ∷ acts) = MissesRightly ts act.what × MissesFrom (replayed ts act.what) acts

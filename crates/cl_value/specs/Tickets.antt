@@ -1,5 +1,5 @@
 -- Several histories in order of their tickets. (This project.)
-use Rattle.std.specs.Prelude.{ℕ, ◌+◌, ◌≡◌, nat_lt, if◌then◌else◌, List, [], ◌∷◌, ◌++◌}
+use Rattle.std.specs.Prelude.{ℕ, ◌+◌, ◌<◌, ◌≡◌, nat_lt, if◌then◌else◌, List, [], ◌∷◌, ◌++◌, All}
 use Rattle.cl_value.specs.Plain.{PlainAct, PlainHistory}
 
 -- the acts with one more, before the first of a greater ticket
@@ -25,3 +25,17 @@ by_ticket histories = in_order (acts_in histories)
 abbrev pub NumberedFrom : ℕ → List PlainAct → Type 0
 NumberedFrom n [] = Unit {0}
 NumberedFrom n (act ∷ acts) = (act.ticket ≡ n) × NumberedFrom (n + 1) acts
+
+-- a ticket is above those of these acts
+abbrev pub IsAbove : ℕ → List PlainAct → Type 0
+IsAbove ticket acts = All (λ act. act.ticket < ticket) acts
+
+-- the tickets of acts rise
+abbrev pub TicketsRise : List PlainAct → Type 0
+TicketsRise [] = Unit {0}
+TicketsRise (act ∷ acts) = All (λ later. act.ticket < later.ticket) acts × TicketsRise acts
+
+-- the tickets rise, from above n
+abbrev pub Rises : ℕ → List PlainAct → Type 0
+Rises n [] = Unit {0}
+Rises n (act ∷ acts) = (n < act.ticket) × Rises act.ticket acts

@@ -19,3 +19,4 @@ pub mod LiveFields
 pub mod Begun
 pub mod Resumed
 pub mod StartFits
+pub mod Again

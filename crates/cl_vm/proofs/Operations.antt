@@ -21,7 +21,7 @@ use Rattle.cl_code.specs.declared.instr.Instr.TheVariants as instrs
 use Rattle.cl_vm.specs.Engine.{Behind, state_of, onward}
 use Rattle.cl_vm.specs.Buffers as buffers
 use Rattle.cl_vm.specs.declared.buffers.Buffers.{Buffers}
-use Rattle.cl_vm.specs.Asks.{count_at, numbers_at, told_engine, at_operation, AsksFor}
+use Rattle.cl_vm.specs.Asks.{count_at, numbers_at, told_engine, at_operation, AsksAt}
 use Rattle.cl_vm.specs.declared.engine.Engine.{Engine}
 use Rattle.cl_vm.proofs.Moves.{opened}
 use Rattle.cl_vm.proofs.Entering.{popped_is}
@@ -83,7 +83,7 @@ module _ (p : PlainProgram) (valid : Valid p) (goes : GoesByInstructions) (e : E
 
   -- ---- by what was built
 
-  by_read : (read : Checked (List Field)) → fields_of p all ns ≡ read → (given : Result (Unit {0}) Trap) (b : Buffers) → buffers.Stands e.depth signature.kind site read given b → AsksFor p site e given b
+  by_read : (read : Checked (List Field)) → fields_of p all ns ≡ read → (given : Result (Unit {0}) Trap) (b : Buffers) → buffers.Stands e.depth signature.kind site read given b → AsksAt p site e given b
   by_read (Ok fields) r (Ok u) b (may, request, stands, same) = (
     request,
     stands,
@@ -98,7 +98,7 @@ module _ (p : PlainProgram) (valid : Valid p) (goes : GoesByInstructions) (e : E
   by_read (Err t) r (Ok u) b same = absurd same
   by_read (Err t) r (Err v) b same = λ behind replies. field_stops t r behind replies ∙ ap (λ (v : Trap). code_demand_of (Stops v) e.output.items replies) same
 
-  pub asks_for : (given : Result (Unit {0}) Trap) (b : Buffers) → buffers.Stands e.depth signature.kind site (fields_of p all ns) given b → AsksFor p site e given b
+  pub asks_for : (given : Result (Unit {0}) Trap) (b : Buffers) → buffers.Stands e.depth signature.kind site (fields_of p all ns) given b → AsksAt p site e given b
   asks_for given b same = by_read (fields_of p all ns) refl given b same
 
   -- ---- behind a reply

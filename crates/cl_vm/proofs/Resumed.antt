@@ -5,8 +5,8 @@ use Rattle.cl_value.specs.Acts.{fits}
 use Rattle.cl_value.specs.Plain.{PlainAsk, PlainReply, PlainRequest, PlainStart, Main, Lives, Land}
 use Rattle.cl_ground.specs.Room.{Room}
 use Rattle.cl_value.specs.Views.{plain_ask}
-use Rattle.cl_value.specs.declared.process.Reply.{Reply}
-use Rattle.cl_value.specs.declared.process.Reply.TheVariants as replied
+use Rattle.cl_vm.specs.declared.vm.Reply.{Reply}
+use Rattle.cl_vm.specs.declared.vm.Reply.TheVariants as replied
 use Rattle.cl_value.specs.declared.request.Ask.TheVariants as asks
 use Rattle.cl_value.specs.declared.request.Request.{Request}
 use Rattle.cl_value.specs.declared.value.Value.{Value}
@@ -15,7 +15,7 @@ use Rattle.cl_code.specs.Plain.{PlainProgram}
 use Rattle.cl_code.specs.Process.{CodeDemand, CodeOutcome, Goes, code_demand}
 use Rattle.cl_vm.specs.Hears.{plain_reply}
 use Rattle.cl_vm.specs.Outermost.{behind_call}
-use Rattle.cl_vm.specs.Processes.{Answers, FitsRequest, HasBeenTold, HasHeard, IsNew, Landing, MayBeTold, Past, Stood, behind_reply, landing_site, origin_of, replies_in, reply_list, request_of, rest_of, values_in_request}
+use Rattle.cl_vm.specs.Processes.{Answers, FitsRequest, HasBeenTold, HasHeard, IsNew, Landing, MayBeTold, Past, Stood, behind_reply, landing_site, origin_of, told_replies, reply_list, request_of, rest_of, values_in_request}
 use Rattle.cl_vm.specs.declared.vm.Demand.{Demand}
 use Rattle.cl_vm.specs.declared.vm.Demand.TheVariants as demands
 use Rattle.cl_vm.specs.declared.vm.Vm.{Vm}
@@ -39,7 +39,7 @@ answers_now p past replies demand vm same stood = subst (λ (rs : List PlainRepl
 -- ---- where it begins
 
 module _ (p : PlainProgram) (past : Past) (vm : Vm) where
-  pub begins_new : (told : Option (List PlainReply)) (reply : Reply) → reply ≡ replied.Begin → HasBeenTold p past.steps past.start told vm → MayBeTold p past told reply → IsNew p past.steps past.start vm × (replies_in told ++ reply_list (plain_reply reply) ≡ [])
+  pub begins_new : (told : Option (List PlainReply)) (reply : Reply) → reply ≡ replied.Begin → HasBeenTold p past.steps past.start told vm → MayBeTold p past told reply → IsNew p past.steps past.start vm × (told_replies told ++ reply_list (plain_reply reply) ≡ [])
   begins_new None reply e stands fit = (stands, ap (λ (r : Reply). [] ++ reply_list (plain_reply r)) e)
   begins_new (Some replies) reply e stands (t, is, q, outcome, fit) = absurd (no_reply (sym (ap plain_reply e) ∙ is))
     where
@@ -90,7 +90,7 @@ module _ (p : PlainProgram) (past : Past) (replies : List PlainReply) (vm : Vm) 
 pub was_told : (p : PlainProgram) (past : Past) (vm : Vm) (told : Option (List PlainReply)) (reply : Reply) → (reply ≡ replied.Begin → ⊥) → HasBeenTold p past.steps past.start told vm → told ≡ past.told → MayBeTold p past told reply → WasTold p past told reply vm
 was_told p past vm None reply later stands same fit = absurd (later fit)
 was_told p past vm (Some replies) reply later stands same (t, is, q, outcome, fit) =
-    let now = ap (λ (o : Option (List PlainReply)). (code_demand p past.steps past.start (replies_in o)).outcome) same ∙ outcome in
+    let now = ap (λ (o : Option (List PlainReply)). (code_demand p past.steps past.start (told_replies o)).outcome) same ∙ outcome in
     let (stood, fits_it) = stands_at_op p past replies vm t q now fit stands.demand stands.origin stands.stood in
     record {
       replies = replies;
@@ -104,13 +104,13 @@ was_told p past vm (Some replies) reply later stands same (t, is, q, outcome, fi
 
 module _ (p : PlainProgram) (past : Past) (told : Option (List PlainReply)) (reply : Reply) (vm : Vm) (was : WasTold p past told reply vm) where
   -- all that it was told
-  all_told : replies_in told ++ reply_list (plain_reply reply) ≡ was.replies ++ was.told_now ∷ []
-  all_told = ap (λ (o : Option (List PlainReply)). replies_in o ++ reply_list (plain_reply reply)) was.is_told ∙ ap (λ (o : Option PlainReply). was.replies ++ reply_list o) was.is_reply
+  all_told : told_replies told ++ reply_list (plain_reply reply) ≡ was.replies ++ was.told_now ∷ []
+  all_told = ap (λ (o : Option (List PlainReply)). told_replies o ++ reply_list (plain_reply reply)) was.is_told ∙ ap (λ (o : Option PlainReply). was.replies ++ reply_list o) was.is_reply
 
-  one_more : behind_reply was.told_now (λ more. code_demand p past.steps past.start (was.replies ++ more)) ≡ (λ more. code_demand p past.steps past.start ((replies_in told ++ reply_list (plain_reply reply)) ++ more))
+  one_more : behind_reply was.told_now (λ more. code_demand p past.steps past.start (was.replies ++ more)) ≡ (λ more. code_demand p past.steps past.start ((told_replies told ++ reply_list (plain_reply reply)) ++ more))
   one_more = fun_ext (λ more. ap (code_demand p past.steps past.start) (sym (append_assoc was.replies (was.told_now ∷ []) more) ∙ ap (λ (rs : List PlainReply). rs ++ more) (sym all_told)))
 
-  pub heard_again : (demand : Demand) (new : Vm) → new.origin ≡ vm.origin → Stood p (behind_reply was.told_now (λ more. code_demand p past.steps past.start (was.replies ++ more))) demand new → HasHeard p past.steps past.start (replies_in told ++ reply_list (plain_reply reply)) new
+  pub heard_again : (demand : Demand) (new : Vm) → new.origin ≡ vm.origin → Stood p (behind_reply was.told_now (λ more. code_demand p past.steps past.start (was.replies ++ more))) demand new → HasHeard p past.steps past.start (told_replies told ++ reply_list (plain_reply reply)) new
   heard_again demand new same stood = record {
     fits = was.heard.fits;
     origin = same ∙ was.heard.origin;
@@ -118,5 +118,5 @@ module _ (p : PlainProgram) (past : Past) (told : Option (List PlainReply)) (rep
     stood = subst (λ (x : List PlainReply → CodeDemand). Stood p x demand new) one_more stood;
   }
 
-  pub answers_again : (demand : Demand) (new : Vm) → new.origin ≡ vm.origin → Stood p (behind_reply was.told_now (λ more. code_demand p past.steps past.start (was.replies ++ more))) demand new → Answers past.start (code_demand p past.steps past.start (replies_in told ++ reply_list (plain_reply reply))) demand new
-  answers_again demand new same stood = answers_now p past (replies_in told ++ reply_list (plain_reply reply)) demand new (same ∙ was.heard.origin) (subst (λ (x : List PlainReply → CodeDemand). Stood p x demand new) one_more stood)
+  pub answers_again : (demand : Demand) (new : Vm) → new.origin ≡ vm.origin → Stood p (behind_reply was.told_now (λ more. code_demand p past.steps past.start (was.replies ++ more))) demand new → Answers past.start (code_demand p past.steps past.start (told_replies told ++ reply_list (plain_reply reply))) demand new
+  answers_again demand new same stood = answers_now p past (told_replies told ++ reply_list (plain_reply reply)) demand new (same ∙ was.heard.origin) (subst (λ (x : List PlainReply → CodeDemand). Stood p x demand new) one_more stood)

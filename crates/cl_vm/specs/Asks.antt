@@ -40,8 +40,8 @@ abbrev pub StandsAt : PlainProgram → ℕ → Engine → Type 0
 StandsAt p site e = slice_get p.code e.place ≡ Some (Perform site)
 
 -- what it comes to at this operation: a request that stands in the buffers, or a trap
-abbrev pub AsksFor : PlainProgram → ℕ → Engine → Result (Unit {0}) Trap → Buffers → Type 0
-AsksFor p site e (Ok u) b =
+abbrev pub AsksAt : PlainProgram → ℕ → Engine → Result (Unit {0}) Trap → Buffers → Type 0
+AsksAt p site e (Ok u) b =
     (request : Request) × (b.request ≡ Some request) × (request.site ≡ site) × (signature : PlainSignature) × (slice_get p.sites site ≡ Some signature)
     × ((behind : Behind) (replies : List PlainReply) → onward p behind e replies ≡ at_operation p behind e (count_at p site signature) signature (plain_request request) replies)
-AsksFor p site e (Err t) b = (behind : Behind) (replies : List PlainReply) → onward p behind e replies ≡ code_demand_of (Stops t) e.output.items replies
+AsksAt p site e (Err t) b = (behind : Behind) (replies : List PlainReply) → onward p behind e replies ≡ code_demand_of (Stops t) e.output.items replies

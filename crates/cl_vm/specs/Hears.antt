@@ -1,8 +1,8 @@
 -- What is pushed after a reply, and where an engine then stands. (This project.)
 use Rattle.std.specs.Prelude.{◌≡◌, ℕ, List, slice_get, Option, Some, None, ℤ, IsTrue}
 use Rattle.cl_value.specs.Plain.{PlainAsk, PlainReply, Done, Got, Miss}
-use Rattle.cl_value.specs.declared.process.Reply.{Reply}
-use Rattle.cl_value.specs.declared.process.Reply.TheVariants as replies
+use Rattle.cl_vm.specs.declared.vm.Reply.{Reply}
+use Rattle.cl_vm.specs.declared.vm.Reply.TheVariants as replies
 use Rattle.cl_sig.specs.Signatures.{PlainSignature}
 use Rattle.cl_sig.specs.declared.signature.Kind.{Kind}
 use Rattle.cl_sig.specs.declared.signature.Mark.{Mark}
@@ -23,7 +23,7 @@ with_all ns m = record m { stack = pushed ns m.stack }
 abbrev pub plain_reply : Reply → Option PlainReply
 plain_reply replies.Begin = None
 plain_reply replies.Done = Some Done
-plain_reply (replies.Got tuple) = Some (Got tuple.items)
+plain_reply (replies.Got tuple) = Some (Got tuple.now.items)
 plain_reply replies.Miss = Some Miss
 
 -- what is pushed after a reply to an operation of this kind with these fields

@@ -12,3 +12,4 @@ pub mod Hears
 pub mod Outermost
 pub mod Processes
 pub mod Trials
+pub mod Laws

@@ -5,18 +5,18 @@ use Rattle.cl_value.specs.LiveViews.{plain_part}
 use Rattle.cl_value.specs.Plain.{PlainPart, Ready, Call, PlainReply, PlainRequest, PlainStart, Main, Lives, Land}
 use Rattle.cl_ground.specs.Room.{Room, HasRoom}
 use Rattle.cl_value.specs.Views.{plain_ask, plain_request}
-use Rattle.cl_value.specs.declared.process.Reply.{Reply}
-use Rattle.cl_value.specs.declared.process.Reply.TheVariants as replied
+use Rattle.cl_vm.specs.declared.vm.Reply.{Reply}
+use Rattle.cl_vm.specs.declared.vm.Reply.TheVariants as replied
 use Rattle.cl_value.specs.declared.request.Ask.{Ask}
 use Rattle.cl_value.specs.declared.request.Ask.TheVariants as asks
 use Rattle.cl_value.specs.declared.request.Request.{Request}
 use Rattle.cl_value.specs.declared.value.Value.{Value}
 use Rattle.cl_model.specs.Demand.{Wants, Finishes, Traps}
 use Rattle.cl_model.specs.Doing.{Stops}
+use Rattle.cl_model.specs.Machine.{depth_of}
 use Rattle.cl_sig.specs.Signatures.{PlainSignature}
 use Rattle.cl_code.specs.Plain.{PlainProgram}
 use Rattle.cl_code.specs.Process.{CodeDemand, Goes, code_demand, code_demand_of, end_after, type_given}
-use Rattle.cl_code.specs.Requests.{depth_of}
 use Rattle.cl_code.specs.Starts.{start_fits}
 use Rattle.cl_vm.specs.Asks.{at_operation, count_at}
 use Rattle.cl_vm.specs.Begins.{IsFresh}
@@ -41,13 +41,13 @@ pub record Past : Type 0 where
   pub told : Option (List PlainReply)
 
 -- the replies, if it has begun
-abbrev pub replies_in : Option (List PlainReply) → List PlainReply
-replies_in None = []
-replies_in (Some replies) = replies
+abbrev pub told_replies : Option (List PlainReply) → List PlainReply
+told_replies None = []
+told_replies (Some replies) = replies
 
 -- what the process demands by now
 abbrev pub demand_now : PlainProgram → Past → CodeDemand
-demand_now p past = code_demand p past.steps past.start (replies_in past.told)
+demand_now p past = code_demand p past.steps past.start (told_replies past.told)
 
 -- one reply, or none
 abbrev pub reply_list : Option PlainReply → List PlainReply
@@ -56,7 +56,7 @@ reply_list (Some reply) = reply ∷ []
 
 -- it was told one reply more, or begins
 abbrev pub told_more : Past → Reply → Past
-told_more past reply = record past { told = Some (replies_in past.told ++ reply_list (plain_reply reply)) }
+told_more past reply = record past { told = Some (told_replies past.told ++ reply_list (plain_reply reply)) }
 
 -- whether it may be told so: it begins first, and each later reply fits what it demands
 abbrev pub MayBeTold : PlainProgram → Past → Option (List PlainReply) → Reply → Type 0

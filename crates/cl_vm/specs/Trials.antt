@@ -1,7 +1,7 @@
 -- What tests know of a machine. (This project.)
 use Rattle.std.specs.Prelude.{◌≡◌, ℕ, List, Some, None}
 use Rattle.cl_value.specs.Plain.{PlainReply, PlainStart}
-use Rattle.cl_value.specs.declared.process.Reply.{Reply}
+use Rattle.cl_vm.specs.declared.vm.Reply.{Reply}
 use Rattle.cl_code.specs.Plain.{PlainProgram}
 use Rattle.cl_vm.specs.Hears.{plain_reply}
 use Rattle.cl_vm.specs.Processes.{Answers, FitsRequest, StandsFor, demand_now}

@@ -7,8 +7,9 @@ ghost use Rattle.cl_code.specs.Sites.{answer_told, answers, formals_in, formals_
 ghost use Rattle.cl_vm.specs.Hears.{plain_reply, told_of, with_all};
 
 use crate::Memory;
+use crate::vm::Reply;
 use cl_sig::{Kind, Mark};
-use cl_value::{Reply, Value};
+use cl_value::Value;
 
 /// A value as a number; that of a text is its place.
 pub fn number_of(value: Value) -> i64
@@ -59,7 +60,7 @@ pub fn push_zeros(memory: &mut Memory, marks: &[Mark])
 }
 
 // Pushes what stands at the formals after a reply, into room that was made before.
-fn push_formals(memory: &mut Memory, marks: &[Mark], reply: &Reply)
+fn push_formals(memory: &mut Memory, marks: &[Mark], reply: &Reply<'_>)
     requires { length memory.old.stack + formals_in marks.now ≤ memory.old.space }
     ensures told { (told : PlainReply) → plain_reply reply.now ≡ Some told → memory.new ≡ with_all (formals_told marks.now told) memory.old }
     ensures few { length memory.new.stack ≤ length memory.old.stack + formals_in marks.now }
@@ -72,7 +73,7 @@ fn push_formals(memory: &mut Memory, marks: &[Mark], reply: &Reply)
 }
 
 // 1 for a tuple.
-fn hit_of(reply: &Reply) -> i64
+fn hit_of(reply: &Reply<'_>) -> i64
     ensures { (told : PlainReply) → plain_reply reply.now ≡ Some told → result ≡ hit told }
 {
     match reply {
@@ -82,7 +83,7 @@ fn hit_of(reply: &Reply) -> i64
 }
 
 // Pushes whether an operation that answers so hit, into room that was made before.
-fn push_answer(memory: &mut Memory, kind: Kind, reply: &Reply)
+fn push_answer(memory: &mut Memory, kind: Kind, reply: &Reply<'_>)
     requires { length memory.old.stack + answers kind ≤ memory.old.space }
     ensures { (told : PlainReply) → plain_reply reply.now ≡ Some told → memory.new ≡ with_all (answer_told kind told) memory.old }
 {
@@ -93,7 +94,7 @@ fn push_answer(memory: &mut Memory, kind: Kind, reply: &Reply)
 }
 
 /// Pushes what a reply gives to an operation of this kind with these fields, into room that was made before.
-pub fn push_told(memory: &mut Memory, kind: Kind, marks: &[Mark], reply: &Reply)
+pub fn push_told(memory: &mut Memory, kind: Kind, marks: &[Mark], reply: &Reply<'_>)
     requires { length memory.old.stack + (formals_in marks.now + answers kind) ≤ memory.old.space }
     ensures { (told : PlainReply) → plain_reply reply.now ≡ Some told → memory.new ≡ with_all (told_of kind marks.now told) memory.old }
 {

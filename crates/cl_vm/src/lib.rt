@@ -8,6 +8,7 @@ mod calls;
 mod cells;
 mod engine;
 mod hearing;
+mod laws;
 mod memory;
 mod numbers;
 mod outermost;
@@ -23,6 +24,7 @@ mod vm;
 
 pub use buffers::Buffers;
 pub use engine::{Engine, Flow};
+pub use laws::each_machine_answers_again;
 pub use memory::Memory;
 pub use starting::Progress;
-pub use vm::{Demand, Vm};
+pub use vm::{Demand, Reply, Vm};

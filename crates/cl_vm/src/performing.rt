@@ -7,7 +7,7 @@ ghost use Rattle.cl_code.specs.Plain.{PlainProgram, plain_function, plain_progra
 ghost use Rattle.cl_code.specs.Sites.{none_or, places, takes};
 ghost use Rattle.cl_code.specs.Valid.{Valid, function_is_short};
 ghost use Rattle.cl_sig.specs.Views.{plain_signature};
-ghost use Rattle.cl_vm.specs.Asks.{AsksFor, StandsAt};
+ghost use Rattle.cl_vm.specs.Asks.{AsksAt, StandsAt};
 ghost use Rattle.cl_vm.specs.Buffers.{IsReady};
 ghost use Rattle.cl_value.specs.Plain.{PlainReply};
 ghost use Rattle.cl_vm.specs.Hears.{Fits, Heard, plain_reply};
@@ -18,9 +18,10 @@ use crate::Engine;
 use crate::asking::{first_call, parameters_of};
 use crate::buffers::Buffers;
 use crate::hearing::push_told;
+use crate::vm::Reply;
 use cl_code::{Function, Program, each_height_is_met, each_instruction_leads_on};
 use cl_sig::{Mark, Signature};
-use cl_value::{Reply, Trap};
+use cl_value::Trap;
 
 // How many numbers these fields take.
 fn count_of(functions: &[Function], marks: &[Mark], calls: &[Option<u32>]) -> usize
@@ -82,7 +83,7 @@ impl Engine {
         requires runs { Runs (plain_program program.now) self.now }
         requires here { StandsAt (plain_program program.now) site self.now }
         requires ready { IsReady (widest_of (plain_program program.now).functions) buffers.old }
-        ensures asks { AsksFor (plain_program program.now) site self.now result buffers.new }
+        ensures asks { AsksAt (plain_program program.now) site self.now result buffers.new }
         ensures ready { OnOk result (IsReady (widest_of (plain_program program.now).functions) buffers.new) }
     {
         each_height_is_met();
@@ -96,7 +97,7 @@ impl Engine {
     }
 
     /// Goes on behind the operation at which it stands, with what this reply gives.
-    pub(crate) fn hear(&mut self, program: &Program, site: u32, reply: &Reply)
+    pub(crate) fn hear(&mut self, program: &Program, site: u32, reply: &Reply<'_>)
         requires runs { Runs (plain_program program.now) self.old }
         requires here { StandsAt (plain_program program.now) site self.old }
         ensures runs { (told : PlainReply) → plain_reply reply.now ≡ Some told → Fits (plain_program program.now) site told self.old → Runs (plain_program program.now) self.new }

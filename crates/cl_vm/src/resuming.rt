@@ -13,10 +13,10 @@ ghost use Rattle.cl_vm.specs.Processes.{FitsRequest, HasClaimed, IsHeld, IsNew, 
 ghost use Rattle.cl_vm.specs.declared.starting.Progress.{Progress as Reached};
 
 use crate::outermost::function_of;
-use crate::vm::{Demand, Vm};
+use crate::vm::{Demand, Reply, Vm};
 use crate::{Flow, Progress};
 use cl_code::{Program, each_process_is_right};
-use cl_value::{LiveField, Reply};
+use cl_value::LiveField;
 
 // The site of the landing of a process that was made by the `eval` of this site.
 fn landing_site(origin: Option<u32>) -> u32
@@ -173,7 +173,7 @@ impl Vm {
     }
 
     /// Goes on behind the operation at which it stands, with this reply.
-    pub(crate) fn hear(&mut self, program: &Program, reply: &Reply) -> Demand
+    pub(crate) fn hear(&mut self, program: &Program, reply: &Reply<'_>) -> Demand
         requires { (demanded : List PlainReply → CodeDemand) × IsFine demanded × Stood (plain_program program.now) demanded Demand.Op self.old × (told : PlainReply) × (plain_reply reply.now ≡ Some told) × FitsRequest told self.old }
         ensures stood { (demanded : List PlainReply → CodeDemand) (told : PlainReply) → Stood (plain_program program.now) demanded Demand.Op self.old → plain_reply reply.now ≡ Some told → FitsRequest told self.old → Stood (plain_program program.now) (behind_reply told demanded) result self.new }
         ensures same { self.new.origin ≡ self.old.origin }

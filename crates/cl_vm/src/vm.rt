@@ -2,8 +2,21 @@ use crate::starting::widest_of;
 use crate::{Buffers, Engine};
 use cl_code::{Program, each_process_is_right};
 use cl_ground::{Items, MOST_FIELDS, NoMemory};
-use cl_value::{Ask, FieldType, Limits, LiveField, Reply, Request, Start, Trap, Tuple, Value};
+use cl_value::{Ask, FieldType, Limits, LiveField, Request, Start, Trap, Tuple, Value};
 use std::alloc::Global;
+
+/// What a process is told: that it begins, or what came of the operation at which it stands. A tuple stays with its owner.
+#[derive(Clone, Copy)]
+pub enum Reply<'a> {
+    /// It begins.
+    Begin,
+    /// Its `out` or `eval` was done.
+    Done,
+    /// Its operation took or read this tuple.
+    Got(&'a Tuple),
+    /// Nothing matched its `inp` or `rdp`.
+    Miss,
+}
 
 /// What a process demands.
 #[derive(Clone, Copy, Debug, PartialEq, Eq)]
@@ -103,8 +116,8 @@ impl Vm {
     }
 
     /// Goes on with this reply up to the next operation or its end. The program is the one with which it was started.
-    /// It takes no memory.
-    pub fn resume(&mut self, program: &Program, reply: &Reply) -> Demand
+    /// It copies no tuple, and takes no memory.
+    pub fn resume(&mut self, program: &Program, reply: &Reply<'_>) -> Demand
         requires { (past : Past) × StandsFor (plain_program program.now) past self.old × FitsPast (plain_program program.now) past reply.now }
         ensures stands { (past : Past) → StandsFor (plain_program program.now) past self.old → FitsPast (plain_program program.now) past reply.now → StandsFor (plain_program program.now) (told_more past reply.now) self.new }
         ensures answers { (past : Past) → StandsFor (plain_program program.now) past self.old → FitsPast (plain_program program.now) past reply.now → Answers past.start (demand_now (plain_program program.now) (told_more past reply.now)) result self.new }

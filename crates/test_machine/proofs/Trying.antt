@@ -3,7 +3,7 @@ use Rattle.std.proofs.Common.{◌≡◌, ap, subst, Some}
 use Rattle.std.specs.Prelude.{IsSome, is_some}
 use Rattle.cl_value.specs.Plain.{PlainStart}
 use Rattle.cl_value.specs.Views.{plain_request}
-use Rattle.cl_value.specs.declared.process.Reply.{Reply}
+use Rattle.cl_vm.specs.declared.vm.Reply.{Reply}
 use Rattle.cl_value.specs.declared.request.Request.{Request}
 use Rattle.cl_model.specs.Demand.{Wants}
 use Rattle.cl_code.specs.Plain.{PlainProgram}

@@ -1,5 +1,5 @@
 use Rattle.std.proofs.Common.{◌≡◌, ◌+◌, ◌≤◌, None}
-use Rattle.cl_set.specs.Keeping.{IsAbove}
+use Rattle.cl_value.specs.Tickets.{IsAbove}
 use Rattle.bench_sets.proofs.fill_and_empty_by_key.Given as goal
 
 abbrev pub invariant-filling : goal.invariant-filling

@@ -5,7 +5,6 @@ ghost use Rattle.cl_value.specs.Acts.{fits};
 ghost use Rattle.cl_value.specs.LiveViews.{plain_live};
 ghost use Rattle.cl_value.specs.Plain.{Eval, Got, Lives, PlainReply};
 ghost use Rattle.cl_value.specs.Matching.{accepts, matches};
-ghost use Rattle.cl_value.specs.declared.process.Reply.TheVariants as replied;
 ghost use Rattle.cl_value.specs.declared.request.Request.{Request as AnyRequest};
 ghost use Rattle.cl_value.specs.declared.value.Value.{Value as AnyValue};
 ghost use Rattle.cl_value.specs.Views.{plain_ask, plain_start};
@@ -15,14 +14,15 @@ ghost use Rattle.cl_vm.specs.Hears.{plain_reply};
 ghost use Rattle.cl_vm.specs.Processes.{request_of};
 ghost use Rattle.cl_vm.specs.Trials.{MayHear};
 ghost use Rattle.cl_vm.specs.declared.vm.Demand.TheVariants as demands;
+ghost use Rattle.cl_vm.specs.declared.vm.Reply.TheVariants as replied;
 ghost use Rattle.cl_ground.specs.declared.limits.TheConstants.{MOST_DEPTH, MOST_STEPS};
 ghost use Rattle.test_machine.specs.Standing.{HasBegun, IsNew};
 
-use super::wanted::{Ending, Exchange, Told, lands, reply_of};
+use super::wanted::{Ending, Exchange, Told, lands, tuple_of};
 use cl_code::{Program, each_process_is_right};
 use cl_ground::NoMemory;
-use cl_value::{Ask, Limits, Live, Reply, Request, Slot, Start, Template, Trap, Tuple, Value};
-use cl_vm::{Demand, Vm};
+use cl_value::{Ask, Limits, Live, Request, Slot, Start, Template, Trap, Tuple, Value};
+use cl_vm::{Demand, Reply, Vm};
 use std::alloc::Global;
 
 // ---- whether a reply fits
@@ -71,7 +71,7 @@ fn template_of(ask: &Ask) -> Option<&Template>
 }
 
 // Whether a reply fits an operation.
-fn is_fit(ask: &Ask, reply: &Reply) -> bool
+fn is_fit(ask: &Ask, reply: &Reply<'_>) -> bool
     ensures { result ≡ true → (told : PlainReply) × (plain_reply reply.now ≡ Some told) × IsTrue (fits (plain_ask ask.now) told) }
 {
     match reply {
@@ -88,7 +88,7 @@ fn is_fit(ask: &Ask, reply: &Reply) -> bool
 // ---- one process
 
 // Begins a process.
-fn begin_by(vm: &mut Vm, program: &Program, reply: &Reply) -> Demand
+fn begin_by(vm: &mut Vm, program: &Program, reply: &Reply<'_>) -> Demand
     requires begins { reply.now ≡ replied.Begin }
     requires new { IsNew (plain_program program.now) vm.old }
     ensures { HasBegun (plain_program program.now) result vm.new }
@@ -113,7 +113,7 @@ fn asked<'a>(vm: &'a Vm, program: &Program) -> &'a Request
 }
 
 // Goes on with a reply that fits.
-fn hear(vm: &mut Vm, program: &Program, reply: &Reply) -> Demand
+fn hear(vm: &mut Vm, program: &Program, reply: &Reply<'_>) -> Demand
     requires stands { HasBegun (plain_program program.now) demands.Op vm.old }
     requires fits { MayHear reply.now vm.old }
     ensures { HasBegun (plain_program program.now) result vm.new }
@@ -122,7 +122,7 @@ fn hear(vm: &mut Vm, program: &Program, reply: &Reply) -> Demand
 }
 
 // Goes on, if the reply fits.
-fn hear_if_fit(vm: &mut Vm, program: &Program, reply: &Reply) -> Option<Demand>
+fn hear_if_fit(vm: &mut Vm, program: &Program, reply: &Reply<'_>) -> Option<Demand>
     requires { HasBegun (plain_program program.now) demands.Op vm.old }
     ensures { IfSome result (λ demand. HasBegun (plain_program program.now) demand vm.new) }
 {
@@ -130,6 +130,17 @@ fn hear_if_fit(vm: &mut Vm, program: &Program, reply: &Reply) -> Option<Demand>
         Some(hear(vm, program, reply))
     } else {
         None
+    }
+}
+
+// The same with a tuple, if there is one.
+fn hear_tuple(vm: &mut Vm, program: &Program, tuple: &Option<Tuple>) -> Option<Demand>
+    requires { HasBegun (plain_program program.now) demands.Op vm.old }
+    ensures { IfSome result (λ demand. HasBegun (plain_program program.now) demand vm.new) }
+{
+    match tuple {
+        Some(tuple) => hear_if_fit(vm, program, &Reply::Got(tuple)),
+        None => None,
     }
 }
 
@@ -143,8 +154,14 @@ fn hear_told(
     requires { HasBegun (plain_program program.now) demands.Op vm.old }
     ensures { IfOk result (λ heard. IfSome heard (λ demand. HasBegun (plain_program program.now) demand vm.new)) }
 {
-    let reply = reply_of(alloc, told)?;
-    Ok(hear_if_fit(vm, program, &reply))
+    match told {
+        Told::Done => Ok(hear_if_fit(vm, program, &Reply::Done)),
+        Told::Got(values) => {
+            let tuple = tuple_of(alloc, values)?;
+            Ok(hear_tuple(vm, program, &tuple))
+        }
+        Told::Miss => Ok(hear_if_fit(vm, program, &Reply::Miss)),
+    }
 }
 
 // Goes on by an exchange, if it asks for that, and the reply fits.

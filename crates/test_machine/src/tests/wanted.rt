@@ -3,8 +3,8 @@
 ghost use Rattle.std.specs.Prelude.{◌<◌, ◌≤◌, length};
 ghost use Rattle.cl_ground.specs.declared.limits.TheConstants.{MOST_FIELDS};
 
-use cl_ground::{Items, NoMemory};
-use cl_value::{Ask, FieldType, LiveField, Reply, Request, Slot, Trap, Tuple, Value};
+use cl_ground::{Items, MOST_FIELDS, NoMemory};
+use cl_value::{Ask, FieldType, LiveField, Request, Slot, Trap, Tuple, Value};
 use std::alloc::Global;
 
 // A field of a live tuple.
@@ -51,30 +51,22 @@ pub enum Ending<'a> {
     Trapped(Trap, usize),
 }
 
-// The reply with this tuple, if it has from 1 to 16 fields.
-fn got(alloc: Global, values: &[Value]) -> Result<Reply, NoMemory> {
-    if values.is_empty() || values.len() > 16 {
-        return Ok(Reply::Miss);
-    }
-    got_some(alloc, values)
-}
-
-// The reply with this tuple.
-fn got_some(alloc: Global, values: &[Value]) -> Result<Reply, NoMemory>
+// The tuple of these values.
+fn some_tuple(alloc: Global, values: &[Value]) -> Result<Tuple, NoMemory>
     requires some { 0 < length values.now }
     requires few { length values.now ≤ MOST_FIELDS }
 {
     let fields = Items::from_slice(alloc, values)?;
-    Ok(Reply::Got(Tuple::new(fields)))
+    Ok(Tuple::new(fields))
 }
 
-// The reply that is told.
-pub fn reply_of(alloc: Global, told: Told) -> Result<Reply, NoMemory> {
-    match told {
-        Told::Done => Ok(Reply::Done),
-        Told::Got(values) => got(alloc, values),
-        Told::Miss => Ok(Reply::Miss),
+// The same, if there are from 1 to 16.
+pub fn tuple_of(alloc: Global, values: &[Value]) -> Result<Option<Tuple>, NoMemory> {
+    if values.is_empty() || values.len() > MOST_FIELDS {
+        return Ok(None);
     }
+    let tuple = some_tuple(alloc, values)?;
+    Ok(Some(tuple))
 }
 
 // Whether a field is this one.

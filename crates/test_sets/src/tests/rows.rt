@@ -10,7 +10,7 @@ ghost use Rattle.cl_ticket.specs.Tokens.{new_process_token, new_set_tokens};
 use super::set_state::SetState;
 use cl_ground::NoMemory;
 use cl_ticket::{
-    Blank, Closed, Plan, ProcSeat, SetSeat, Tickets, close, enter, gather, halt, leave, make,
+    Blank, Closed, Plan, ProcSeat, SetSeat, Tickets, close, enter, gather, halt, leave_full, make,
     see_halt,
 };
 use cl_value::What;
@@ -59,7 +59,7 @@ pub fn finds_it_full<K: Plan>(
     ensures gathered { result.gathered ≡ guest.gathered }
 {
     enter(tickets, set, guest);
-    leave(tickets, set, true)
+    leave_full(tickets, set)
 }
 
 // A child of a child of process 0.
@@ -121,7 +121,7 @@ pub fn fails<K: Plan>(tickets: &Tickets<K>, main: &mut ProcSeat<K>, child: &mut 
     let first = halt(tickets, child);
     let second = halt(tickets, main);
     let after = see_halt(tickets, main);
-    before.is_none() && first == 2 && second == 2 && after == Some(1)
+    before.is_none() && first == 1 && second == 1 && after == Some(1)
 }
 
 // Whether it goes so, and what stands in the table then.

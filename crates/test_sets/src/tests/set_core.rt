@@ -4,7 +4,7 @@ ghost use Rattle.std.specs.Prelude.{◌≡◌, ◌<◌};
 use super::trial::{SEVEN, Told, Trial, Trying, request_of};
 use cl_ground::NoMemory;
 use cl_sig::Class;
-use cl_value::Steps;
+use cl_value::{Request, Steps};
 use std::alloc::Global;
 use std::marker::Brand;
 use std::sync::ledger::{Blank, Ledger};
@@ -68,6 +68,16 @@ fn one_left(asked: Option<i32>) -> [Row; 4] {
     ]
 }
 
+// Whether an operation goes so, and it was told before whether it waits.
+fn goes_so<L: Ledger>(
+    trial: &mut Trial,
+    request: &Request,
+    wanted: Told,
+    steps: &mut Steps<L>,
+) -> bool {
+    trial.waits(request, steps) == (wanted == Told::NotYet) && trial.act(request, steps) == wanted
+}
+
 // Whether the operations go so, one after another.
 fn go_so<L: Ledger>(
     alloc: Global,
@@ -78,7 +88,7 @@ fn go_so<L: Ledger>(
 ) -> Result<bool, NoMemory> {
     for row in rows {
         let request = request_of(alloc, class, row.trying)?;
-        if trial.act(&request, steps) != row.wanted {
+        if !goes_so(trial, &request, row.wanted, steps) {
             return Ok(false);
         }
     }

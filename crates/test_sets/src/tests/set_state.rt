@@ -62,7 +62,7 @@ impl<K: Plan> SetState<K> {
         enter(tickets, &mut self.seat, guest);
         let ticket = draw(tickets, &mut self.seat, site, what);
         self.count += 1;
-        (leave(tickets, &mut self.seat, false), ticket)
+        (leave(tickets, &mut self.seat), ticket)
     }
 
     // The guest makes a process here.
@@ -84,7 +84,7 @@ impl<K: Plan> SetState<K> {
         self.count += 1;
         self.evals += 1;
         let child = born(tickets, &mut self.seat);
-        (leave(tickets, &mut self.seat, false), child, ticket)
+        (leave(tickets, &mut self.seat), child, ticket)
     }
 
     // The token alone.

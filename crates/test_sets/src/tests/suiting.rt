@@ -6,7 +6,7 @@ ghost use Rattle.cl_value.specs.Views.{plain_ask, plain_request};
 ghost use Rattle.cl_sig.specs.Beside.{all_beside};
 ghost use Rattle.cl_sig.specs.Suits.{value_suits, slot_suits, part_suits, is_literal, is_formal_slot, is_actual_at, class_suits, ask_suits, suits};
 ghost use Rattle.cl_sig.specs.Views.{plain_shape};
-ghost use Rattle.cl_set.specs.Conditions.{IsStorable, class_allows, is_number_mark};
+ghost use Rattle.cl_sig.specs.Storable.{IsStorable, class_allows, is_number_mark};
 
 use cl_sig::{Class, Mark, SetShape};
 use cl_value::{Ask, FieldType, LiveField, Request, Slot, Value};

@@ -1,7 +1,7 @@
 // A set on which operations are tried one at a time.
 ghost use Rattle.std.specs.Prelude.{◌≡◌, ◌+◌, [], None, IsSome, IfOk, IfSome};
 ghost use Rattle.cl_ground.specs.Room.{Room};
-ghost use Rattle.cl_set.specs.Keeping.{IsAbove};
+ghost use Rattle.cl_value.specs.Tickets.{IsAbove};
 ghost use Rattle.cl_sig.specs.Views.{plain_shape};
 
 use super::suiting::{is_storable, request_fits};
@@ -191,7 +191,7 @@ pub struct Trial {
 impl Model for Trial {
     ghost use Rattle.std.specs.Prelude.{◌≡◌, None};
     ghost use Rattle.cl_sig.specs.Views.{plain_shape};
-    ghost use Rattle.cl_set.specs.Keeping.{IsAbove};
+    ghost use Rattle.cl_value.specs.Tickets.{IsAbove};
     ghost use Rattle.cl_set.specs.Sets.{PlainSet};
 
     ghost Value = { PlainSet };
@@ -249,6 +249,11 @@ impl Trial {
             })),
             None => Ok(None),
         }
+    }
+
+    // Whether an operation would wait.
+    pub fn waits<L: Ledger>(&self, request: &Request, steps: &mut Steps<L>) -> bool {
+        request_fits(&self.shape, request) && self.set.waits(request, steps)
     }
 
     // Plans, and seals what was begun.

@@ -1,4 +1,4 @@
-use Rattle.cl_typing.proofs.Process.{functions_have_scenes, statements_lead, scopes_are_entered, values_are_typed, statements_keep, demands_fit, evals_fit}
+use Rattle.cl_typing.proofs.Process.{functions_have_scenes, statements_lead, scopes_are_entered, values_are_typed, statements_keep, demands_fit, evals_are_shallow, evals_fit}
 use Rattle.cl_instances.proofs.laws.each_value_is_typed.Goals as goal
 
 pub returns-clause-functions : goal.returns-clause-functions
@@ -18,6 +18,9 @@ returns-clause-statements c = statements_keep
 
 pub returns-clause-demands : goal.returns-clause-demands
 returns-clause-demands c = demands_fit
+
+pub returns-clause-shallow : goal.returns-clause-shallow
+returns-clause-shallow c = evals_are_shallow
 
 pub returns-clause-starts : goal.returns-clause-starts
 returns-clause-starts c = evals_fit

@@ -2,7 +2,7 @@ use Rattle.std.proofs.Common.{sym, ◌∙◌, ap}
 use Rattle.cl_value.specs.Replay.{replayed}
 use Rattle.cl_value.specs.Views.{plain_ask}
 use Rattle.cl_value.specs.declared.request.Ask.{Ask}
-use Rattle.cl_store.specs.Answers.{answer}
+use Rattle.cl_value.specs.Answers.{answer}
 use Rattle.cl_set.proofs.Found.{taken-replayed, taken_now-replayed}
 use Rattle.cl_set.specs.Stores.{content_in}
 use Rattle.cl_set.proofs.begin.begin.Goals as goal

@@ -4,7 +4,8 @@ use Rattle.std.proofs.lemmas.List.Elements.{All-weaker, All-contains_itself, Con
 use Rattle.cl_value.specs.Views.{plain_ask, plain_what}
 use Rattle.cl_value.specs.Replay.{replayed}
 use Rattle.cl_value.specs.declared.value.Value.{Value}
-use Rattle.cl_store.specs.Answers.{answer, tuple_of, tuples_of, IsStoreAsk}
+use Rattle.cl_store.specs.Answers.{tuple_of, tuples_of, IsStoreAsk}
+use Rattle.cl_value.specs.Answers.{answer}
 use Rattle.cl_store.proofs.Played.{All-ask, All-tuple_of, All-template_of, drop-next, All-replayed, answers-next, left_after-push, no_landing}
 use Rattle.cl_store.proofs.playing.play.Goals as goal
 

@@ -1,7 +1,7 @@
 use Rattle.std.proofs.Common.{◌≡◌, List, subst, sym, ◌∙◌, ap, map, Some, refl}
 use Rattle.cl_value.specs.Plain.{PlainAct}
 use Rattle.cl_value.specs.Views.{plain_act}
-use Rattle.cl_set.specs.Keeping.{IsAbove}
+use Rattle.cl_value.specs.Tickets.{IsAbove}
 use Rattle.cl_set.specs.Sets.{PlainSet}
 use Rattle.cl_set.proofs.Steps.{stands-sealed, told-kept, pushed}
 use Rattle.std.proofs.lemmas.List.{map-append}

@@ -1,8 +1,8 @@
 use Rattle.std.proofs.Common.{suc, subst}
 use Rattle.cl_value.specs.LiveViews.{plain_live}
 use Rattle.cl_value.specs.Views.{plain_request}
+use Rattle.cl_model.specs.Machine.{depth_of}
 use Rattle.cl_code.specs.Plain.{plain_program}
-use Rattle.cl_code.specs.Requests.{depth_of}
 use Rattle.cl_code.specs.Valid.{Valid}
 use Rattle.cl_code.specs.declared.parts.ProgramParts.{ProgramParts}
 use Rattle.test_machine.proofs.TestRows.{at_depth}
