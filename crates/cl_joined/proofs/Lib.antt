@@ -1,0 +1,12 @@
+pub mod Lists
+pub mod Names
+pub mod Sites
+pub mod Shapes
+pub mod Obeying
+pub mod Begin
+pub mod Histories
+pub mod Participants
+pub mod Paired
+pub mod Steps
+pub mod Joins
+pub mod Rows
