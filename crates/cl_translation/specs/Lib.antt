@@ -1,0 +1,11 @@
+pub mod Around
+pub mod Layout
+pub mod Stands
+pub mod Chosen
+pub mod Lying
+pub mod Code
+pub mod Conditions
+pub mod Statements
+pub mod Programs
+pub mod Made
+pub mod Laws
