@@ -1,0 +1,5 @@
+use Rattle.cl_text.proofs.Stages.{then}
+use Rattle.cl_text.proofs.buffer.OutputBuffer.put_tuple.Goals as goal
+
+pub returns : goal.returns
+returns g c = then _ _ _ _ _ (then _ _ _ _ _ c.put.ensures c.put_values.ensures) c.put-2.ensures

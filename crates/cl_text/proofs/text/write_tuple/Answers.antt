@@ -1,0 +1,12 @@
+use Rattle.std.proofs.Common.{[], ◌++◌, append-nil}
+use Rattle.cl_value.specs.Text.{tuple_text}
+use Rattle.cl_text.specs.Tables.{texts_of}
+use Rattle.cl_text.proofs.Stages.{then, alike, finished}
+use Rattle.cl_text.proofs.text.write_tuple.Goals as goal
+
+pub returns-in-Ok : goal.returns-in-Ok
+returns-in-Ok c =
+    let text = tuple_text (texts_of c.args.texts.now) c.args.values.now in
+    let puts = alike (text ++ []) text _ _ (append-nil text) (then _ _ _ _ _ c.put_tuple.ensures c.in-Ok.ensures.puts) in
+    let all = finished text _ _ c.without_room-buffer.ensures.failed c.in-Ok.ensures.failed c.without_room-buffer.ensures.pending c.in-Ok.ensures.empty puts in
+    cc all.all
