@@ -43,6 +43,8 @@ use Rattle.cl_translation.specs.Around.{around_in}
 use Rattle.cl_translation.specs.Laws.{TheCodeDemandsTheSame}
 use Rattle.cl_translation.proofs.Notation.{both, same_trap}
 use Rattle.cl_translation.proofs.Remainders.{remainders}
+use Rattle.cl_translation.proofs.Operators.{RemainderAgrees}
+use Rattle.cl_code.specs.Arithmetic.{RemaindersAgree}
 use Rattle.cl_translation.proofs.Requests.{as_value_is}
 use Rattle.cl_translation.proofs.Conversions.{byte_same}
 use Rattle.cl_translation.proofs.Live.{ArgumentsAre}
@@ -115,7 +117,7 @@ arguments_fit [] (v ∷ vs) are within = absurd are
 arguments_fit (y ∷ ys) [] are within = absurd are
 arguments_fit (y ∷ ys) (v ∷ vs) are within = (record { type = are.0; within = number_within v within.0 }, arguments_fit ys vs are.1 within.1)
 
-module _ (xs : List Item) (p : PlainProgram) (is : IsCodeOf xs p) (code' : EnteredCode xs p) (depth : ℕ) (goes : Goes p depth) where
+module _ (xs : List Item) (p : PlainProgram) (is : IsCodeOf xs p) (code' : EnteredCode xs p) (depth : ℕ) (goes : Goes p depth) (agree : RemainderAgrees) where
   -- the result as a value
   as_part : (v : Value) (of : TypeName) (n : ℤ) (s : State Variables) (t : State Cells) → Result code'.globals of v s n t → AlikeOrLost (Part code'.globals) (Gives (v, s)) (checked (ending_as (Some (field_type of)) (Some n)) t)
   unfolding checked pure
@@ -138,7 +140,7 @@ module _ (xs : List Item) (p : PlainProgram) (is : IsCodeOf xs p) (code' : Enter
   call_same f g here vs all s t r =
       then_same (Result code'.globals (result_type f)) (Part code'.globals) pure (λ result. checked (ending_as (Some (field_type (result_type f))) result))
       (λ v s' n t' h. subst (λ q. AlikeOrLost (Part code'.globals) q (checked (ending_as (Some (field_type (result_type f))) (Some n)) t')) (sym (gives_it v s')) (as_part v (result_type f) n s' t' h)) (λ P t'. none_given (result_type f) P t') _ _
-      (function_same p (around_in xs) depth goes remainders code'.globals (has_functions xs p is code') (takes_right xs p is) f g here all.given (map number vs) all.scope all.cells s t r)
+      (function_same p (around_in xs) depth goes agree code'.globals (has_functions xs p is code') (takes_right xs p is) f g here all.given (map number vs) all.scope all.cells s t r)
 
   -- what a call that is a field does, opened
   called_is : (number' : ℕ) (vs : List Value) (f : Function) → slice_get (functions_of xs) number' ≡ Some f → meaning.called_at xs depth number' vs ≡ calls (fixed xs depth) MOST_ACTIVE f.name.bytes vs
@@ -149,7 +151,7 @@ module _ (xs : List Item) (p : PlainProgram) (is : IsCodeOf xs p) (code' : Enter
       (calls (fixed xs depth) MOST_ACTIVE f.name.bytes vs >>= pure) s ≡ (tick >> (run (fixed xs depth) (calls (fixed xs depth) 255) f all.given >>= pure)) s
   unfolding ◌>>=◌ then_do
   opened f named vs all s =
-      ap (λ d. d s) (calls_open p (around_in xs) depth Value (Result code'.globals (result_type f)) goes remainders code'.globals (has_functions xs p is code') (takes_right xs p is) 255 f.name.bytes f named vs pure)
+      ap (λ d. d s) (calls_open p (around_in xs) depth Value (Result code'.globals (result_type f)) goes agree code'.globals (has_functions xs p is code') (takes_right xs p is) 255 f.name.bytes f named vs pure)
       ∙ ap (λ q. then_do q (λ given. tick >> (run (fixed xs depth) (calls (fixed xs depth) 255) f given >>= pure))) (all.is s)
 
   unpure : (d : Does Value) (s : State Variables) → (d >>= pure) s ≡ d s
@@ -225,16 +227,16 @@ unfolding meaning.process code.process meaning.live code.live
 live_never xs p over over' ticks site parts depth = claimed_none (SameList {V = Variables} {W = Cells}) (cells_of_globals xs) (length p.globals) over' over (meaning.parts_do xs depth parts) (code.parts_do p depth parts []) (meaning.begun xs ticks) (code.begun p ticks)
 
 -- each process does the same
-processes_alike : (xs : List Item) (p : PlainProgram) → IsCodeOf xs p → CodeIs xs p → ((depth : ℕ) → Goes p depth) → (ticks : ℕ) (start : PlainStart) → StartFits xs start → StartWithin start →
+processes_alike : (xs : List Item) (p : PlainProgram) → IsCodeOf xs p → CodeIs xs p → ((depth : ℕ) → Goes p depth) → RemainderAgrees → (ticks : ℕ) (start : PlainStart) → StartFits xs start → StartWithin start →
     AlikeOrLost (SameList {V = Variables} {W = Cells}) (meaning.process xs start (meaning.begun xs ticks)) (code.process p start (code.begun p ticks))
-processes_alike xs p is (NeverEntered over over' ends) goes ticks Main fit within = (main_never xs p over over' ticks).alike
-processes_alike xs p is (NeverEntered over over' ends) goes ticks (Lives site parts depth) fit within = (live_never xs p over over' ticks site parts depth).alike
-processes_alike xs p is (programs.Entered globals outside cells claimed functions) goes ticks Main fit within =
-    (main_same xs p is (record { globals = globals; outside = outside; cells = cells; claimed = claimed; functions = functions }) (goes 0) ticks).alike
-processes_alike xs p is (programs.Entered globals outside cells claimed functions) goes ticks (Lives site parts depth) fit within =
-    (live_same xs p is (record { globals = globals; outside = outside; cells = cells; claimed = claimed; functions = functions }) depth (goes depth) ticks site parts fit within).alike
+processes_alike xs p is (NeverEntered over over' ends) goes agree ticks Main fit within = (main_never xs p over over' ticks).alike
+processes_alike xs p is (NeverEntered over over' ends) goes agree ticks (Lives site parts depth) fit within = (live_never xs p over over' ticks site parts depth).alike
+processes_alike xs p is (programs.Entered globals outside cells claimed functions) goes agree ticks Main fit within =
+    (main_same xs p is (record { globals = globals; outside = outside; cells = cells; claimed = claimed; functions = functions }) (goes 0) agree ticks).alike
+processes_alike xs p is (programs.Entered globals outside cells claimed functions) goes agree ticks (Lives site parts depth) fit within =
+    (live_same xs p is (record { globals = globals; outside = outside; cells = cells; claimed = claimed; functions = functions }) depth (goes depth) agree ticks site parts fit within).alike
 
 -- with the public laws of valid programs
-pub code_demands : GoesByInstructions → IsNeverWrong → TheCodeDemandsTheSame
-code_demands goes never xs p is valid ticks start fit within starts replies all =
-    demands_same (meaning.process xs start (meaning.begun xs ticks)) (code.process p start (code.begun p ticks)) (processes_alike xs p is is.code (λ depth. goes p valid depth) ticks start fit within) [] (λ more. never p valid ticks start starts more) replies all
+pub code_demands : GoesByInstructions → IsNeverWrong → RemaindersAgree → TheCodeDemandsTheSame
+code_demands goes never agree xs p is valid ticks start fit within starts replies all =
+    demands_same (meaning.process xs start (meaning.begun xs ticks)) (code.process p start (code.begun p ticks)) (processes_alike xs p is is.code (λ depth. goes p valid depth) (remainders agree) ticks start fit within) [] (λ more. never p valid ticks start starts more) replies all

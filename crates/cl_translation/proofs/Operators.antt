@@ -15,6 +15,7 @@ use Rattle.cl_value.specs.Matching.{type_of}
 use Rattle.cl_meaning.specs.Operators.{operated, field_type}
 use Rattle.cl_code.specs.Plain.{PlainProgram}
 use Rattle.cl_code.specs.Arithmetic as arithmetic
+use Rattle.cl_code.specs.Arithmetic.{bits_of, in_type}
 use Rattle.cl_code.specs.Arithmetic.{fitting, divided, remaining, is_at_most}
 use Rattle.cl_code.specs.Machine.{Stack, effect, on_two}
 use Rattle.cl_code.specs.declared.instr.Instr.{Instr}
@@ -124,6 +125,79 @@ arithmetic_agrees l r a b n h k = subst (λ c. Agree (common l r) c (fitting (bi
 test_agrees : (test : Bool) → Agree types.Int (Ok (truth test)) (Ok (arithmetic.truth test))
 test_agrees true = (record { type = refl; within = refl }, refl)
 test_agrees false = (record { type = refl; within = refl }, refl)
+
+-- ---- the common type, as the machine's arithmetic tells it
+
+abbrev by_bits : Bool → Bool → ℕ
+by_bits a b = if a then 63 else (if b then 63 else 31)
+
+bits_longs : (a b : Value) → bits_of a b ≡ by_bits (is_long a) (is_long b)
+unfolding is_long
+bits_longs (values.Long x) b = refl
+bits_longs (values.Int x) (values.Long y) = refl
+bits_longs (values.Int x) (values.Int y) = refl
+bits_longs (values.Int x) (values.Char y) = refl
+bits_longs (values.Int x) (values.Text y) = refl
+bits_longs (values.Char x) (values.Long y) = refl
+bits_longs (values.Char x) (values.Int y) = refl
+bits_longs (values.Char x) (values.Char y) = refl
+bits_longs (values.Char x) (values.Text y) = refl
+bits_longs (values.Text x) (values.Long y) = refl
+bits_longs (values.Text x) (values.Int y) = refl
+bits_longs (values.Text x) (values.Char y) = refl
+bits_longs (values.Text x) (values.Text y) = refl
+
+common_bits : (l r : TypeName) → bits (common l r) ≡ by_bits (is_long_type l) (is_long_type r)
+unfolding is_long_type
+common_bits types.Int types.Int = refl
+common_bits types.Int types.Long = refl
+common_bits types.Int types.Char = refl
+common_bits types.Long r = refl
+common_bits types.Char types.Int = refl
+common_bits types.Char types.Long = refl
+common_bits types.Char types.Char = refl
+
+pub bits_are : (l r : TypeName) (a b : Value) → IsIn l a → IsIn r b → bits_of a b ≡ bits (common l r)
+bits_are l r a b h k = bits_longs a b ∙ (ap (λ x. by_bits x (is_long b)) (long_of a l h.type) ∙ (ap (λ x. by_bits (is_long_type l) x) (long_of b r k.type) ∙ sym (common_bits l r)))
+
+abbrev by_value : Bool → Bool → ℤ → Value
+by_value a b n = if a then values.Long n else (if b then values.Long n else values.Int n)
+
+value_longs : (a b : Value) (n : ℤ) → in_type a b n ≡ by_value (is_long a) (is_long b) n
+unfolding is_long
+value_longs (values.Long x) b n = refl
+value_longs (values.Int x) (values.Long y) n = refl
+value_longs (values.Int x) (values.Int y) n = refl
+value_longs (values.Int x) (values.Char y) n = refl
+value_longs (values.Int x) (values.Text y) n = refl
+value_longs (values.Char x) (values.Long y) n = refl
+value_longs (values.Char x) (values.Int y) n = refl
+value_longs (values.Char x) (values.Char y) n = refl
+value_longs (values.Char x) (values.Text y) n = refl
+value_longs (values.Text x) (values.Long y) n = refl
+value_longs (values.Text x) (values.Int y) n = refl
+value_longs (values.Text x) (values.Char y) n = refl
+value_longs (values.Text x) (values.Text y) n = refl
+
+-- a value of this type, with this number
+pub record Typed (of : TypeName) (n : ℤ) (v : Value) : Type 0 where
+  pub is : IsIn of v
+  pub number : number v ≡ n
+
+common_typed : (l r : TypeName) (n : ℤ) → is_within (bits (common l r)) n ≡ true → Typed (common l r) n (by_value (is_long_type l) (is_long_type r) n)
+unfolding is_long_type
+common_typed types.Int types.Int n h = record { is = record { type = refl; within = h }; number = refl }
+common_typed types.Int types.Long n h = record { is = record { type = refl; within = h }; number = refl }
+common_typed types.Int types.Char n h = record { is = record { type = refl; within = h }; number = refl }
+common_typed types.Long r n h = record { is = record { type = refl; within = h }; number = refl }
+common_typed types.Char types.Int n h = record { is = record { type = refl; within = h }; number = refl }
+common_typed types.Char types.Long n h = record { is = record { type = refl; within = h }; number = refl }
+common_typed types.Char types.Char n h = record { is = record { type = refl; within = h }; number = refl }
+
+pub typed_as : (l r : TypeName) (a b : Value) → IsIn l a → IsIn r b → (n : ℤ) → is_within (bits (common l r)) n ≡ true → Typed (common l r) n (in_type a b n)
+typed_as l r a b h k n within =
+    let same = value_longs a b n ∙ (ap (λ x. by_value x (is_long b) n) (long_of a l h.type) ∙ ap (λ x. by_value (is_long_type l) x n) (long_of b r k.type)) in
+    subst (Typed (common l r) n) (sym same) (common_typed l r n within)
 
 -- ---- what each operator computes
 

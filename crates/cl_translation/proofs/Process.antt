@@ -31,7 +31,6 @@ use Rattle.cl_translation.proofs.Means.{Goes, End}
 use Rattle.cl_translation.specs.Programs.{FunctionIs, IsCodeOf}
 use Rattle.cl_translation.proofs.Notation.{both, left_is, right_is, same_trap}
 use Rattle.cl_translation.proofs.Operators.{RemainderAgrees}
-use Rattle.cl_translation.proofs.Remainders.{remainders}
 use Rattle.cl_translation.proofs.Requests.{as_value_is}
 use Rattle.cl_translation.proofs.Live.{TakesRight, named}
 use Rattle.cl_translation.proofs.Calls.{BodyIs, Entered, Fits, Exceeds, entered_as, FunctionHere, HasFunctions, run_opens, body_goes, calls_run}
@@ -170,7 +169,7 @@ takes_right xs p is name f named' =
 
 -- ---- process 0
 
-module _ (xs : List Item) (p : PlainProgram) (is : IsCodeOf xs p) (code' : EnteredCode xs p) (goes : Goes p 0) where
+module _ (xs : List Item) (p : PlainProgram) (is : IsCodeOf xs p) (code' : EnteredCode xs p) (goes : Goes p 0) (remainders : RemainderAgrees) where
   -- the result becomes the only value
   finishes : (v : Value) (of : TypeName) (n : ℤ) (s : State Variables) (t : State Cells) → IsIn of v → number v ≡ n → AlikeOrLost (SameList {V = Variables} {W = Cells}) (pure (v ∷ []) s) ((checked (ending_as (Some (field_type of)) (Some n)) >>= (λ value. pure (alone value))) t)
   unfolding ◌>>=◌ then_do pure checked

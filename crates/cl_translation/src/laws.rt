@@ -1,7 +1,7 @@
 ghost use Rattle.cl_translation.specs.Laws.{TheCodeDemandsTheSame, TheCodeRunsAlike};
 
 use cl_cases::each_value_is_within_its_type;
-use cl_code::{each_instruction_leads_on, each_process_is_right};
+use cl_code::{each_division_agrees, each_instruction_leads_on, each_process_is_right};
 use cl_instances::{
     each_act_is_an_instance, each_request_is_an_instance, each_start_fits_its_program,
 };
@@ -15,6 +15,7 @@ pub fn the_code_demands_the_same()
 {
     each_instruction_leads_on();
     each_process_is_right();
+    each_division_agrees();
 }
 
 /// A law of each valid program that is the code of a text that was read from a source and has no faults: a
