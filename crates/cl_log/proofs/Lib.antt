@@ -1,0 +1,5 @@
+pub mod Numbers
+pub mod Values
+pub mod Acts
+pub mod Answers
+pub mod Rows

@@ -1,0 +1,17 @@
+//! Acts as bytes: what an act is spelled as, how it is read again, and what puts it into room made before.
+//!
+//! The crate promises that acts are read from their bytes as they were, and that `put_act` puts the bytes of
+//! the act and takes no memory.
+#![tactic(auto)]
+
+mod kind;
+mod laws;
+mod number;
+mod write;
+mod write_act;
+
+pub use kind::Kind;
+pub use laws::{acts_are_read_as_spelled, answers_are_from_what_was_found};
+pub use number::NUMBER_ROOM;
+pub use write::VALUE_ROOM;
+pub use write_act::{HEAD_ROOM, put_act};
