@@ -3,3 +3,4 @@ pub mod Values
 pub mod Acts
 pub mod Answers
 pub mod Rows
+pub mod Logs

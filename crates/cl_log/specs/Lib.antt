@@ -5,3 +5,4 @@ pub mod Answered
 pub mod Spelling
 pub mod Reading
 pub mod Laws
+pub mod Logs

@@ -4,14 +4,19 @@
 //! the act and takes no memory.
 #![tactic(auto)]
 
+mod block;
 mod kind;
 mod laws;
+mod log;
 mod number;
+mod space;
 mod write;
 mod write_act;
 
+pub use block::Block;
 pub use kind::Kind;
 pub use laws::{acts_are_read_as_spelled, answers_are_from_what_was_found};
+pub use log::ActLog;
 pub use number::NUMBER_ROOM;
 pub use write::VALUE_ROOM;
 pub use write_act::{HEAD_ROOM, put_act};
