@@ -1,5 +1,5 @@
 -- One act more, behind those of a block.
-use Rattle.std.proofs.Common.{◌≡◌, ℕ, zero, suc, ◌+◌, ◌≤◌, ◌<◌, List, [], ◌∷◌, ◌++◌, length, All, refl, sym, ap, subst, ◌∙◌, arith, append_assoc, append-nil}
+use Rattle.std.proofs.Common.{◌≡◌, ℕ, ◌≤◌, ◌<◌, List, [], ◌∷◌, ◌++◌, refl, sym, ap, subst, ◌∙◌, arith, append_assoc, append-nil}
 use Rattle.std.proofs.lemmas.List.Elements.{All-head, All-tail}
 use Rattle.cl_value.specs.Plain.{PlainAct}
 use Rattle.cl_value.specs.Tickets.{IsAbove}
@@ -40,7 +40,7 @@ more_acts bytes last act b has =
     let acts = acts_at 0 bytes in
     let has' : ActHasBytes (last_ticket 0 acts) act = subst (λ n. ActHasBytes n act) b.latest has in
     let all : acts_of 0 (acts ++ act ∷ []) ≡ bytes ++ act_of last act =
-      spelled_more 0 acts act ∙ (ap (λ front. front ++ act_of (last_ticket 0 acts) act) b.spelled ∙ ap (λ n. bytes ++ act_of n act) (sym b.latest)) in
+    spelled_more 0 acts act ∙ (ap (λ front. front ++ act_of (last_ticket 0 acts) act) b.spelled ∙ ap (λ n. bytes ++ act_of n act) (sym b.latest)) in
     ap (acts_at 0) (sym all) ∙ acts-again 0 (acts ++ act ∷ []) (have_more 0 acts act b.have has')
 
 pub more_block : (bytes : List ℕ) (last : ℕ) (act : PlainAct) → IsBlock bytes last → ActHasBytes last act → IsBlock (bytes ++ act_of last act) act.ticket

@@ -1,5 +1,5 @@
 -- A log: blocks of bytes, each of which spells acts, one block after another. (This project's own.)
-use Rattle.std.specs.Prelude.{◌≡◌, ℕ, ◌-◌, ◌≤◌, List, [], ◌∷◌, ◌++◌, length, vec_len, vec_capacity}
+use Rattle.std.specs.Prelude.{◌≡◌, ℕ, ◌-◌, List, [], ◌∷◌, ◌++◌, vec_len, vec_capacity}
 use Rattle.std.specs.Global.{Vec}
 use Rattle.cl_value.specs.Plain.{PlainAct}
 use Rattle.cl_log.specs.Spelling.{acts_of, HaveBytes, last_ticket}

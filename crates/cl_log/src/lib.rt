@@ -1,4 +1,4 @@
-//! Acts as bytes: what an act is spelled as, how it is read again, and what puts it into room made before.
+//! A log of acts as bytes: what an act is spelled as, how it is read again, and a list of acts in blocks that never move.
 //!
 //! The crate promises that acts are read from their bytes as they were, and that `put_act` puts the bytes of
 //! the act and takes no memory.

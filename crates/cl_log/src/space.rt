@@ -1,17 +1,17 @@
 //! How many bytes an act takes at most.
 
-use crate::number::NUMBER_ROOM;
-use crate::write::VALUE_ROOM;
-use crate::write_act::HEAD_ROOM;
-use cl_ground::MOST_FIELDS;
-use cl_value::{Ask, LiveField};
-
 ghost use Rattle.std.specs.Prelude.{◌≡◌, ◌+◌, ◌*◌, IfSome, map};
 ghost use Rattle.cl_value.specs.LiveViews.{plain_part};
 ghost use Rattle.cl_value.specs.Views.{plain_ask};
 ghost use Rattle.cl_log.specs.declared.number.TheConstants.{NUMBER_ROOM};
 ghost use Rattle.cl_log.specs.declared.write.TheConstants.{VALUE_ROOM};
 ghost use Rattle.cl_log.specs.Space.{part_room, parts_room, ask_room};
+
+use crate::number::NUMBER_ROOM;
+use crate::write::VALUE_ROOM;
+use crate::write_act::HEAD_ROOM;
+use cl_ground::MOST_FIELDS;
+use cl_value::{Ask, LiveField};
 
 // Of a call with so many arguments, or none where that is beyond counting.
 fn call_room(arguments: usize) -> Option<usize>

@@ -1,4 +1,4 @@
-use Rattle.std.proofs.Common.{◌≡◌, ◌≤◌, [], ◌∷◌, ◌++◌, ap, sym, subst, ◌∙◌, arith}
+use Rattle.std.proofs.Common.{◌≤◌, [], ◌∷◌, ◌++◌, ap, sym, subst, ◌∙◌, arith}
 use Rattle.std.specs.Option.{option_copied}
 use Rattle.cl_value.specs.Tickets.{IsAbove}
 use Rattle.cl_value.specs.Views.{plain_ask}
@@ -23,6 +23,6 @@ returns c =
     let act = done c.args.ticket c.args.name c.args.request.now.site (answered (plain_ask c.args.request.now.ask) (fields_if_any (option_copied c.args.got))) in
     record {
       acts = ap (acts_at 0) c.put_act.ensures.bytes
-        ∙ (more_acts c.self.inside.bytes.items c.self.inside.last act c.self.invariant c.put_act.ensures.fits
-        ∙ ap (λ b. b.acts ++ act ∷ []) c.self.view_is)
+          ∙ (more_acts c.self.inside.bytes.items c.self.inside.last act c.self.invariant c.put_act.ensures.fits
+          ∙ ap (λ b. b.acts ++ act ∷ []) c.self.view_is);
     }
