@@ -1,9 +1,9 @@
 pub mod Numbers
+pub mod Once
 pub mod Tickets
 pub mod Sayings
-pub mod Makes
-pub mod Refused
 pub mod Outcomes
-pub mod FrontLaws
-pub mod JudgingLaws
+pub mod Reading
+pub mod Ways
+pub mod Fine
 pub mod Clauses

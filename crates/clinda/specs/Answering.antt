@@ -1,13 +1,15 @@
 -- All ways in which a call of the top can go. (This project.)
-use Rattle.std.specs.Prelude.{ℕ, ◌≡◌, ◌+◌, ◌≤◌, List, length, Option, None}
+use Rattle.std.specs.Prelude.{ℕ, ◌≡◌, ◌+◌, ◌≤◌, List, length, Option, Some, None}
 use Rattle.cl_value.specs.Plain.{PlainRun}
 use Rattle.cl_outside.specs.Faults.{Rose}
 use Rattle.cl_outside.specs.Streams.{TakesAll, Loses, LosesUpTo}
-use Rattle.clinda.specs.Commands.{Command, Spells, SpellsNone, most_bytes}
+use Rattle.clinda.specs.Doors.{Door, Opens, OpensNone}
+use Rattle.clinda.specs.Inputs.{limit_of, own_text}
 use Rattle.clinda.specs.Refusals.{words_refused, too_large}
-use Rattle.clinda.specs.Saying.{Said, Tells}
-use Rattle.clinda.specs.Making.{Found}
-use Rattle.clinda.specs.declared.outcome.Saying.{Saying}
+use Rattle.clinda.specs.Saying.{Said}
+use Rattle.clinda.specs.Making.{Ended}
+use Rattle.clinda.specs.Makers.{maker}
+use Rattle.clinda.specs.declared.words.Command.{Command}
 
 -- what a call found of its source and of its sink, before and after it
 pub record Outside : Type 0 where
@@ -30,15 +32,28 @@ pub record SaysNothing (before after : Outside) : Type 0 where
   pub same : after.written ≡ before.written
   pub quiet : after.write_faults ≡ before.write_faults
 
--- What becomes of a command that reads a source: a read failed; there is more than it takes; memory ran out
--- for what was read; or all was read, and what it made of that was said.
-pub data Read (command : Command) (status : ℕ) (report : Option PlainRun) (before after : Outside) : Type 0 where
-  Failed : status ≡ 4 → report ≡ None → Rose before.read_faults after.read_faults → LosesUpTo (most_bytes command) before.left after.left → SaysNothing before after → Read command status report before after
-  Larger : Loses (most_bytes command + 1) before.left after.left → after.read_faults ≡ before.read_faults → report ≡ None → Says too_large 2 status before after → Read command status report before after
-  NoRoom : status ≡ 8 → report ≡ None → after.read_faults ≡ before.read_faults → LosesUpTo (most_bytes command) before.left after.left → SaysNothing before after → Read command status report before after
-  All : (source : List ℕ) → length source ≤ most_bytes command → TakesAll source before.left after.left → after.read_faults ≡ before.read_faults → (found : Option Saying) → Found command source report found → Tells found status before.written after.written before.write_faults after.write_faults → Read command status report before after
+-- the input was had: all that was left was read, within the limit; or nothing was read, and it is a text of one's own
+abbrev pub Has : Option ℕ → List ℕ → List ℕ → Outside → Outside → Type 0
+Has None own input before after = (input ≡ own) × (after.left ≡ before.left)
+Has (Some most) own input before after = (length input ≤ most) × TakesAll input before.left after.left
 
--- what becomes of a call: its words spell no command, or they spell one
-pub data Answered (words : List (List ℕ)) (status : ℕ) (report : Option PlainRun) (before after : Outside) : Type 0 where
-  NoCommand : SpellsNone words → after.left ≡ before.left → after.read_faults ≡ before.read_faults → report ≡ None → Says words_refused 1 status before after → Answered words status report before after
-  Commanded : (command : Command) → Spells words command → Read command status report before after → Answered words status report before after
+-- a call stopped at its reading: a read failed; there is more than the limit; or memory ran out for what was read
+pub data Stopped (most : ℕ) (status : ℕ) (report : Option PlainRun) (before after : Outside) : Type 0 where
+  Failed : status ≡ 4 → report ≡ None → Rose before.read_faults after.read_faults → LosesUpTo most before.left after.left → SaysNothing before after → Stopped most status report before after
+  Larger : Loses (most + 1) before.left after.left → after.read_faults ≡ before.read_faults → report ≡ None → Says too_large 2 status before after → Stopped most status report before after
+  NoRoom : status ≡ 8 → report ≡ None → after.read_faults ≡ before.read_faults → LosesUpTo most before.left after.left → SaysNothing before after → Stopped most status report before after
+
+-- only a call that reads does so
+abbrev pub Stops : Option ℕ → ℕ → Option PlainRun → Outside → Outside → Type 0
+Stops None status report before after = ⊥
+Stops (Some most) status report before after = Stopped most status report before after
+
+-- what becomes of a command: its call stopped at its reading, or it had its input and ended by it
+pub data Done (command : Command) (status : ℕ) (report : Option PlainRun) (before after : Outside) : Type 0 where
+  Stop : Stops (limit_of command.verb) status report before after → Done command status report before after
+  Go : (input : List ℕ) → Has (limit_of command.verb) (own_text command) input before after → after.read_faults ≡ before.read_faults → Ended (maker command) input status report before.written after.written before.write_faults after.write_faults → Done command status report before after
+
+-- what becomes of a call: its words spell no command that it serves, or they spell one
+pub data Answered (door : Door) (words : List (List ℕ)) (status : ℕ) (report : Option PlainRun) (before after : Outside) : Type 0 where
+  NoCommand : OpensNone door words → after.left ≡ before.left → after.read_faults ≡ before.read_faults → report ≡ None → Says words_refused 1 status before after → Answered door words status report before after
+  Commanded : (command : Command) → Opens door words command → Done command status report before after → Answered door words status report before after

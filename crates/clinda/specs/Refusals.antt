@@ -1,24 +1,31 @@
--- The texts of refusals, and the lines and columns of a source. (This project.)
-use Rattle.std.specs.Prelude.{ℕ, ◌+◌, ◌==◌, if◌then◌else◌, List, [], ◌∷◌, ◌++◌, codes, take}
+-- Refusals as they are printed. (This project.)
+use Rattle.std.specs.Prelude.{ℕ, List, ◌++◌, codes}
 use Rattle.std.specs.Fmt.{decimal}
 use Rattle.cl_value.specs.Text.{line}
-use Rattle.clinda.specs.declared.refusal_kind.Refusal.{Refusal}
-use Rattle.clinda.specs.declared.refusal_kind.RefusalKind.{RefusalKind}
-use Rattle.clinda.specs.declared.refusal_kind.RefusalKind.TheVariants as kinds
+use Rattle.cl_ast.specs.declared.fault.LexKind.{LexKind}
+use Rattle.cl_ast.specs.declared.fault.LexKind.TheVariants as lexical
+use Rattle.cl_types.specs.declared.fault.TypeKind.{TypeKind}
+use Rattle.cl_types.specs.declared.fault.TypeKind.TheVariants as typing
+use Rattle.cl_front.specs.Places.{place_at}
+use Rattle.cl_front.specs.declared.refusal.Refusal.{Refusal}
+use Rattle.cl_front.specs.declared.refusal.RefusalKind.{RefusalKind}
+use Rattle.cl_front.specs.declared.refusal.RefusalKind.TheVariants as kinds
 
--- the line of what follows these bytes, from a line on: lines end at LF
-abbrev pub line_from : ℕ → List ℕ → ℕ
-line_from n [] = n
-line_from n (byte ∷ bytes) = if byte == 10 then line_from (n + 1) bytes else line_from n bytes
+-- where an input is refused, as it is printed: at a line and a column of a text, at a byte, or by a rule at a
+-- place (no command of today reads an input that is refused by the last two)
+pub data Where : Type 0 where
+  At : (line column : ℕ) → Where
+  AtByte : (byte : ℕ) → Where
+  ByRule : (rule place : ℕ) → Where
 
--- the column of what follows these bytes, from a column on: columns count bytes
-abbrev pub column_from : ℕ → List ℕ → ℕ
-column_from n [] = n
-column_from n (byte ∷ bytes) = if byte == 10 then column_from 1 bytes else column_from (n + 1) bytes
+-- a refusal as it is printed
+pub record Printed : Type 0 where
+  pub kind : RefusalKind
+  pub at : Where
 
--- line and column of a place, both from 1
-abbrev pub place_text : List ℕ → ℕ → List ℕ
-place_text source place = decimal (line_from 1 (take place source)) ++ codes ":" ++ decimal (column_from 1 (take place source))
+-- a refusal of this source as it is printed: at its line and column
+abbrev pub printed : List ℕ → Refusal → Printed
+printed source refusal = record { kind = refusal.kind; at = At (place_at source refusal.place).line (place_at source refusal.place).column }
 
 -- the words spell no command
 abbrev pub words_refused : List ℕ
@@ -28,27 +35,41 @@ words_refused = line (codes "words refused")
 abbrev pub too_large : List ℕ
 too_large = line (codes "refused TooLarge")
 
+-- why a source isn't tokens, by its name
+abbrev pub lex_word : LexKind → List ℕ
+lex_word lexical.BadByte = codes "BadByte"
+lex_word lexical.OpenString = codes "OpenString"
+lex_word lexical.OpenComment = codes "OpenComment"
+lex_word lexical.WideLiteral = codes "WideLiteral"
+lex_word lexical.BadDirective = codes "BadDirective"
+
+-- what is wrong with a tree, by its name
+abbrev pub type_word : TypeKind → List ℕ
+type_word typing.NoMain = codes "NoMain"
+type_word typing.UnknownName = codes "UnknownName"
+type_word typing.TwiceDeclared = codes "TwiceDeclared"
+type_word typing.WrongType = codes "WrongType"
+type_word typing.WrongCount = codes "WrongCount"
+type_word typing.BadFormat = codes "BadFormat"
+type_word typing.BadField = codes "BadField"
+type_word typing.NoLoop = codes "NoLoop"
+type_word typing.TooManySites = codes "TooManySites"
+type_word typing.TooManyFunctions = codes "TooManyFunctions"
+
 -- the name of a kind of refusal
 abbrev pub kind_word : RefusalKind → List ℕ
-kind_word kinds.BadByte = codes "BadByte"
-kind_word kinds.OpenString = codes "OpenString"
-kind_word kinds.OpenComment = codes "OpenComment"
-kind_word kinds.WideLiteral = codes "WideLiteral"
-kind_word kinds.BadDirective = codes "BadDirective"
+kind_word (kinds.Lex kind) = lex_word kind
 kind_word kinds.Syntax = codes "Syntax"
 kind_word kinds.TooDeep = codes "TooDeep"
-kind_word kinds.NoMain = codes "NoMain"
-kind_word kinds.UnknownName = codes "UnknownName"
-kind_word kinds.TwiceDeclared = codes "TwiceDeclared"
-kind_word kinds.WrongType = codes "WrongType"
-kind_word kinds.WrongCount = codes "WrongCount"
-kind_word kinds.BadFormat = codes "BadFormat"
-kind_word kinds.BadField = codes "BadField"
-kind_word kinds.NoLoop = codes "NoLoop"
-kind_word kinds.TooManySites = codes "TooManySites"
-kind_word kinds.TooManyFunctions = codes "TooManyFunctions"
+kind_word (kinds.Type kind) = type_word kind
 kind_word kinds.NotBuilt = codes "NotBuilt"
 
--- the source is refused so
-abbrev pub refused : List ℕ → Refusal → List ℕ
-refused source refusal = line (codes "refused " ++ kind_word refusal.kind ++ codes " at " ++ place_text source refusal.place)
+-- where it is refused
+abbrev pub where_text : Where → List ℕ
+where_text (At line column) = codes " at " ++ decimal line ++ codes ":" ++ decimal column
+where_text (AtByte byte) = codes " at byte " ++ decimal byte
+where_text (ByRule rule place) = codes " rule " ++ decimal rule ++ codes " at " ++ decimal place
+
+-- the input is refused so
+abbrev pub refused : Printed → List ℕ
+refused refusal = line (codes "refused " ++ kind_word refusal.kind ++ where_text refusal.at)

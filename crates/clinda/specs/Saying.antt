@@ -1,8 +1,12 @@
 -- How a text is written at the end of a call. (This project.)
-use Rattle.std.specs.Prelude.{ℕ, ◌≡◌, ◌<◌, List, length, take, Option, Some, None}
+use Rattle.std.specs.Prelude.{ℕ, ◌≡◌, ◌<◌, ◌⊎◌, List, length, take, Option}
 use Rattle.cl_outside.specs.Faults.{Rose}
 use Rattle.cl_outside.specs.Streams.{Appends}
-use Rattle.clinda.specs.declared.outcome.Saying.{Saying}
+
+-- a text, and the status with which a call ends that writes it
+pub record Saying : Type 0 where
+  pub text : List ℕ
+  pub status : ℕ
 
 -- The text was written whole, and the status is the one that was found; or a write failed, a front of the
 -- text was written, and the status is 5.
@@ -16,7 +20,7 @@ pub record Unsaid (status : ℕ) (before after : Option (List ℕ)) (faults_befo
   pub same : after ≡ before
   pub quiet : faults_after ≡ faults_before
 
--- what was to be said was said, where memory was there for it
-abbrev pub Tells : Option Saying → ℕ → Option (List ℕ) → Option (List ℕ) → ℕ → ℕ → Type 0
-Tells None status before after faults_before faults_after = Unsaid status before after faults_before faults_after
-Tells (Some saying) status before after faults_before faults_after = Said saying.text saying.status status before after faults_before faults_after
+-- what was to be said was said, or memory ran out before its first byte
+abbrev pub Speaks : Saying → ℕ → Option (List ℕ) → Option (List ℕ) → ℕ → ℕ → Type 0
+Speaks saying status before after faults_before faults_after =
+    Said saying.text saying.status status before after faults_before faults_after ⊎ Unsaid status before after faults_before faults_after

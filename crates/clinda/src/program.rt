@@ -4,6 +4,7 @@ ghost use Rattle.std.specs.Prelude.{◌≡◌, drop, Option};
 ghost use Rattle.std.specs.Process.{exit_status};
 ghost use Rattle.cl_value.specs.Plain.{PlainRun};
 ghost use Rattle.clinda.specs.Words.{words_in};
+ghost use Rattle.clinda.specs.Doors.{Plain};
 ghost use Rattle.clinda.specs.Answering.{seen, Answered};
 
 use crate::top::clinda_plain;
@@ -29,7 +30,7 @@ pub fn run<I: Source, O: Sink>(
     src: &mut I,
     out: &mut O,
 ) -> ExitCode
-    ensures { (report : Option PlainRun) × Answered (words_in (drop 1 arguments.now)) (exit_status result) report
+    ensures { (report : Option PlainRun) × Answered Plain (words_in (drop 1 arguments.now)) (exit_status result) report
         (seen I.left O.written I.faults O.faults src.old out.old)
         (seen I.left O.written I.faults O.faults src.new out.new) }
 {

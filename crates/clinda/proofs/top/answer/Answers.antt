@@ -2,14 +2,13 @@ use Rattle.std.proofs.Common.{ap, refl}
 use Rattle.std.specs.Prelude.{option_map}
 use Rattle.cl_value.specs.Views.{plain_run}
 use Rattle.clinda.specs.Refusals.{words_refused}
-use Rattle.clinda.specs.declared.top.TopEnd.{TopEnd}
+use Rattle.clinda.specs.declared.ending.TopEnd.{TopEnd}
 use Rattle.clinda.specs.Answering.{NoCommand, Commanded}
-use Rattle.clinda.specs.Commanded.{plain_command}
 use Rattle.clinda.proofs.Sayings.{resaid}
 use Rattle.clinda.proofs.top.answer.Goals as goal
 
 pub returns-in-Some : goal.returns-in-Some
-returns-in-Some g c = Commanded (plain_command c.in-Some.command) c.in-Some.ensures.spelled c.read_and_make.ensures
+returns-in-Some g c = Commanded c.in-Some.command c.in-Some.ensures.opened c.read_and_make.ensures
 
 pub returns-in-None : goal.returns-in-None
 returns-in-None g c =

@@ -1,23 +1,25 @@
-use Rattle.clinda.proofs.Clauses.{words_clause, read_clause, too_large_clause, source_clause, written_clause, run_clause, stuck_clause, statuses_clause, halted_clause, read_fault_clause, lost_clause, write_fault_clause, memory_clause, report_clause}
+use Rattle.clinda.specs.Doors.{Plain}
+use Rattle.clinda.proofs.Clauses.{clauses}
+use Rattle.clinda.proofs.Fine.{each_fine}
 use Rattle.clinda.proofs.top.clinda_plain.Goals as goal
 
 pub returns : goal.returns
 returns g c =
-    let all = c.answer.ensures in
+    let all = clauses each_fine Plain _ _ _ _ _ c.answer.ensures in
     record {
-      answered = all;
-      words = words_clause _ _ _ _ _ all;
-      read = read_clause _ _ _ _ _ all;
-      too_large = too_large_clause _ _ _ _ _ all;
-      source = source_clause _ _ _ _ _ all;
-      written = written_clause _ _ _ _ _ all;
-      run = run_clause _ _ _ _ _ all;
-      stuck = stuck_clause _ _ _ _ _ all;
-      statuses = statuses_clause _ _ _ _ _ all;
-      halted = halted_clause _ _ _ _ _ all;
-      read_fault = read_fault_clause _ _ _ _ _ all;
-      lost = lost_clause _ _ _ _ _ all;
-      write_fault = write_fault_clause _ _ _ _ _ all;
-      memory = memory_clause _ _ _ _ _ all;
-      report = report_clause _ _ _ _ _ all;
+      answered = c.answer.ensures;
+      words = all.of_words;
+      read = all.read;
+      too_large = all.too_large;
+      source = all.source;
+      written = all.written;
+      run = all.run;
+      stuck = all.stuck;
+      statuses = all.statuses;
+      halted = all.halted;
+      read_fault = all.read_fault;
+      lost = all.lost;
+      write_fault = all.write_fault;
+      memory = all.memory;
+      report = all.of_report;
     }

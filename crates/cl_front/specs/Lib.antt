@@ -1,0 +1,5 @@
+pub mod Front
+pub mod Judging
+pub mod Places
+pub mod Reading
+pub mod Ends
