@@ -4,3 +4,5 @@ pub mod Acts
 pub mod Answers
 pub mod Rows
 pub mod Logs
+pub mod Seen
+pub mod Cursors

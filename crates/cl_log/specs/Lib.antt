@@ -6,3 +6,5 @@ pub mod Spelling
 pub mod Reading
 pub mod Laws
 pub mod Logs
+pub mod Seen
+pub mod Cursors

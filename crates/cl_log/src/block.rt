@@ -31,6 +31,8 @@ impl Block {
     ghost use Rattle.cl_value.specs.Views.{plain_ask};
     ghost use Rattle.cl_log.specs.Answered.{answered, done, fields_if_any, MayAnswer};
     ghost use Rattle.cl_log.specs.Space.{ask_room};
+    ghost use Rattle.cl_log.specs.Reading.{acts_at};
+    ghost use Rattle.cl_log.specs.Cursors.{IsReader};
 
     /// No acts and no room. It takes no memory.
     #[tactic(auto, using(crate::proofs::Logs::nothing, crate::proofs::Logs::empty_block))]
@@ -60,6 +62,14 @@ impl Block {
         ensures { result ≡ self.now.ready }
     {
         self.bytes.capacity() - self.bytes.len()
+    }
+
+    /// Its bytes.
+    pub(crate) fn bytes(&self) -> &[u8]
+        ensures acts { acts_at 0 result.now ≡ self.now.acts }
+        ensures reader { IsReader result.now 0 }
+    {
+        self.bytes.as_slice()
     }
 
     /// Puts an act last: what was asked for, with the tuple that was found for it, if any. It takes no memory.

@@ -1,4 +1,5 @@
 use crate::block::Block;
+use crate::cursor::{Cursor, first_of};
 use crate::space::room_for;
 use cl_ground::{Items, NoMemory};
 use cl_value::{Request, Tuple};
@@ -101,5 +102,12 @@ impl ActLog {
         ensures { result ≡ length self.now.acts }
     {
         self.count
+    }
+
+    /// Reads the acts in order, from the first one on. It takes no memory.
+    pub fn cursor(&self) -> Cursor<'_>
+        ensures { result ≡ self.now.acts }
+    {
+        first_of(self.full.as_slice(), Some(&self.open))
     }
 }
