@@ -6,3 +6,4 @@ pub mod Rows
 pub mod Logs
 pub mod Seen
 pub mod Cursors
+pub mod Narrow

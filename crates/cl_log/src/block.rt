@@ -32,7 +32,7 @@ impl Block {
     ghost use Rattle.cl_log.specs.Answered.{answered, done, fields_if_any, MayAnswer};
     ghost use Rattle.cl_log.specs.Space.{ask_room};
     ghost use Rattle.cl_log.specs.Reading.{acts_at};
-    ghost use Rattle.cl_log.specs.Cursors.{IsReader};
+    ghost use Rattle.cl_log.specs.Cursors.{AreNarrow, IsReader};
 
     /// No acts and no room. It takes no memory.
     #[tactic(auto, using(crate::proofs::Logs::nothing, crate::proofs::Logs::empty_block))]
@@ -62,6 +62,14 @@ impl Block {
         ensures { result ≡ self.now.ready }
     {
         self.bytes.capacity() - self.bytes.len()
+    }
+
+    /// How many arguments the calls of one of its acts have at most: no act has more than the block has bytes.
+    #[tactic(auto, using(crate::proofs::Narrow::block_long))]
+    pub(crate) fn longest(&self) -> usize
+        ensures { AreNarrow result self.now.acts }
+    {
+        self.bytes.len()
     }
 
     /// Its bytes.

@@ -19,18 +19,21 @@ pub struct ActLog {
     full: Items<Block>,
     open: Block,
     count: u64,
+    // No call of an act in a full block has more arguments.
+    longest: usize,
     alloc: Global,
 }
 
 impl Model for ActLog {
     ghost use Rattle.std.specs.Prelude.{◌≡◌, ◌++◌, length};
+    ghost use Rattle.cl_log.specs.Cursors.{AreNarrow};
     ghost use Rattle.cl_log.specs.Logs.{PlainLog, log_of, acts_in_blocks};
 
     ghost Value = { PlainLog };
 
     ghost view = { λ log. log_of log.full.items log.open };
 
-    ghost invariant = { λ log. log.count ≡ length (acts_in_blocks log.full.items ++ log.open.acts) };
+    ghost invariant = { λ log. (log.count ≡ length (acts_in_blocks log.full.items ++ log.open.acts)) × AreNarrow log.longest (acts_in_blocks log.full.items) };
 }
 
 impl ActLog {
@@ -40,6 +43,7 @@ impl ActLog {
     ghost use Rattle.cl_value.specs.Views.{plain_ask};
     ghost use Rattle.cl_log.specs.Answered.{answered, done, fields_if_any, MayAnswer};
     ghost use Rattle.cl_log.specs.Space.{ask_room};
+    ghost use Rattle.cl_log.specs.Cursors.{AreNarrow};
 
     /// No acts. It takes no memory, and keeps the allocator for its later growths.
     pub fn new(alloc: Global) -> ActLog
@@ -49,6 +53,7 @@ impl ActLog {
             full: Items::new(alloc),
             open: Block::empty(alloc),
             count: 0,
+            longest: 0,
             alloc,
         }
     }
@@ -71,7 +76,7 @@ impl ActLog {
     }
 
     // A block with room for so many bytes is the one that is written.
-    #[tactic(auto, using(crate::proofs::Logs::block_turned))]
+    #[tactic(auto, using(crate::proofs::Logs::block_turned, crate::proofs::Narrow::block_closed))]
     fn open_block(&mut self, room: usize) -> Result<(), NoMemory>
         ensures acts { self.new.acts ≡ self.old.acts }
         ensures ready { OnOk result (room ≤ self.new.ready) }
@@ -79,8 +84,10 @@ impl ActLog {
     {
         self.full.reserve(1)?;
         let block = Block::with_room(self.alloc, room.max(BLOCK))?;
+        let longest = self.longest.max(self.open.longest());
         let before = mem::replace(&mut self.open, block);
         self.full.push(before);
+        self.longest = longest;
         Ok(())
     }
 
@@ -102,6 +109,14 @@ impl ActLog {
         ensures { result ≡ length self.now.acts }
     {
         self.count
+    }
+
+    /// How many arguments the calls of one act have at most, or more: no act has more than its block has bytes.
+    #[tactic(auto, using(crate::proofs::Narrow::narrow_more, crate::proofs::Narrow::narrow_both))]
+    pub fn longest(&self) -> usize
+        ensures { AreNarrow result self.now.acts }
+    {
+        self.longest.max(self.open.longest())
     }
 
     /// Reads the acts in order, from the first one on. It takes no memory.
