@@ -8,4 +8,5 @@ mod text;
 mod values;
 
 pub use buffer::OutputBuffer;
+pub use growing::Growing;
 pub use text::Text;

@@ -141,6 +141,14 @@ impl Text {
         end
     }
 
+    /// The bytes again, with their room. It takes no memory.
+    pub fn into_items(self) -> Items<u8>
+        ensures { result.items ≡ self }
+    {
+        let Text { bytes } = self;
+        bytes
+    }
+
     /// The bytes in order.
     pub fn as_bytes(&self) -> &[u8]
         ensures { result.now ≡ self.now }

@@ -28,8 +28,13 @@ fn name_of(trap: Trap) -> &'static [u8]
     }
 }
 
-// Puts words and a number.
-fn put_numbered<O: Sink>(buffer: &mut OutputBuffer, out: &mut O, words: &[u8], number: u64)
+/// Puts words and a number.
+pub(crate) fn put_numbered<O: Sink>(
+    buffer: &mut OutputBuffer,
+    out: &mut O,
+    words: &[u8],
+    number: u64,
+)
     ensures { Puts (words.now ++ decimal number) (stage (O.written out.old) (O.faults out.old) buffer.old) (stage (O.written out.new) (O.faults out.new) buffer.new) }
 {
     buffer.put(out, words);
