@@ -1,10 +1,9 @@
 -- The line of an act. (This project; the operations: Gelernter 1985; Carriero and Gelernter, "How to Write Parallel
 -- Programs".)
-use Rattle.std.specs.Prelude.{ℕ, Bool, List, [], ◌∷◌, ◌++◌, length, codes, if◌then◌else◌}
+use Rattle.std.specs.Prelude.{ℕ, List, [], ◌∷◌, ◌++◌, codes}
 use Rattle.std.specs.Fmt.{decimal}
-use Rattle.cl_value.specs.Text.{line, value_text, tuple_text, reports_text, status_line}
-use Rattle.cl_value.specs.Plain.{PlainPart, Ready, Call, PlainWhat, DidOut, DidIn, DidRd, InpHit, InpMiss, RdpHit, RdpMiss, DidEval, DidLand, PlainAct, PlainReport, PlainHistory}
-use Rattle.cl_value.specs.Tickets.{by_ticket}
+use Rattle.cl_value.specs.Text.{line, value_text, tuple_text}
+use Rattle.cl_value.specs.Plain.{PlainPart, Ready, Call, PlainWhat, DidOut, DidIn, DidRd, InpHit, InpMiss, RdpHit, RdpMiss, DidEval, DidLand, PlainAct}
 use Rattle.cl_value.specs.declared.value.FieldType.{FieldType}
 use Rattle.cl_value.specs.declared.value.FieldType.TheVariants as types
 use Rattle.cl_value.specs.declared.template.Slot.{Slot}
